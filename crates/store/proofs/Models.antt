@@ -1,0 +1,112 @@
+-- One set of the eleven changed: the others, the total and the members.
+use mathlib.Core.Path.{_≡_, refl, sym, ap, _∙_}
+use mathlib.Core.Bool.{Bool, true, false, cond, not, _&&_, _||_}
+use mathlib.Core.List.{List, []}
+use mathlib.Core.Logic.{_⊎_, inl, inr, ⊎-elim}
+use Prim.Native.Nat.{ℕ, _+_, _≤_, _<_}
+use native.Mathlib.Omega.{arith}
+use lib.Dec.{eqb, lit<}
+use Rattle.std.specs.declared.option.Option.the-variants.{Some}
+use lib.ListN.{length}
+use Rattle.std.proofs.shelf.Tests.{eq-eqb, ne-eqb, cases-eq, cond-true, cond-false}
+use Rattle.store.specs.Ids.{Lawful}
+use Rattle.store.specs.Ranges.{Span, has, within, Canonical, with-range, without-range}
+use Rattle.store.specs.Sets.{Model, number, numbered, with-set, total}
+use Rattle.store.specs.Changes.{put-into, taken-from, moved, cleared, Added, Removed, Emptied, Moved}
+use Rattle.store.specs.declared.sets.SetName.{SetName}
+use Rattle.store.specs.declared.sets.SetName.the-variants.{KeptGiven, KeptSeen, KeptSeenFai, KeptRead, TrackedGiven, TrackedSeen, TrackedSeenFai, ToldGiven, ToldSeen, ToldSeenFai, ToldRead}
+use Rattle.store.proofs.Adding.{adding-members}
+use Rattle.store.proofs.Removing.{removing-members}
+
+pub this-set : (m : Model) (set : SetName) (rs : List Span) → with-set m set rs set ≡ rs
+this-set m set rs = cond-true _ _ _ (eq-eqb (number set) (number set) refl)
+
+pub other-set : (m : Model) (set other : SetName) (rs : List Span) → (number other ≡ number set → ⊥) → with-set m set rs other ≡ m other
+other-set m set other rs ne = cond-false _ _ _ (ne-eqb (number other) (number set) ne)
+
+pub total-follows : (m : Model) (set : SetName) (rs : List Span) → total (with-set m set rs) + length (m set) ≡ total m + length rs
+unfolding total
+total-follows m KeptGiven rs = omega arith
+total-follows m KeptSeen rs = omega arith
+total-follows m KeptSeenFai rs = omega arith
+total-follows m KeptRead rs = omega arith
+total-follows m TrackedGiven rs = omega arith
+total-follows m TrackedSeen rs = omega arith
+total-follows m TrackedSeenFai rs = omega arith
+total-follows m ToldGiven rs = omega arith
+total-follows m ToldSeen rs = omega arith
+total-follows m ToldSeenFai rs = omega arith
+total-follows m ToldRead rs = omega arith
+
+pub numbered-back : (set : SetName) → numbered (number set) ≡ Some set
+numbered-back KeptGiven = refl
+numbered-back KeptSeen = refl
+numbered-back KeptSeenFai = refl
+numbered-back KeptRead = refl
+numbered-back TrackedGiven = refl
+numbered-back TrackedSeen = refl
+numbered-back TrackedSeenFai = refl
+numbered-back ToldGiven = refl
+numbered-back ToldSeen = refl
+numbered-back ToldSeenFai = refl
+numbered-back ToldRead = refl
+
+-- one name for one number
+pub same-name : (s t : SetName) → number s ≡ number t → s ≡ t
+same-name s t e =
+    let a = numbered-back s in
+    let b = numbered-back t in
+    let d = ap numbered e in
+    cc
+
+pub number-small : (set : SetName) → number set < 11
+number-small KeptGiven = lit< tt
+number-small KeptSeen = lit< tt
+number-small KeptSeenFai = lit< tt
+number-small KeptRead = lit< tt
+number-small TrackedGiven = lit< tt
+number-small TrackedSeen = lit< tt
+number-small TrackedSeenFai = lit< tt
+number-small ToldGiven = lit< tt
+number-small ToldSeen = lit< tt
+number-small ToldSeenFai = lit< tt
+number-small ToldRead = lit< tt
+
+module _ (m n : Model) (set : SetName) (low high : ℕ) where
+  pub added : n ≡ put-into m set low high → low ≤ high → Canonical (m set) → Added m n set low high
+  added e h f = record {
+    here = λ id. ap (λ x. has (x set) id) e ∙ ap (λ l. has l id) (this-set m set _) ∙ adding-members 0 low high id (m set) h f;
+    others = λ other ne. ap (λ x. x other) e ∙ other-set m set other _ ne;
+  }
+
+  pub removed : n ≡ taken-from m set low high → low ≤ high → Removed m n set low high
+  removed e h = record {
+    here = λ id. ap (λ x. has (x set) id) e ∙ ap (λ l. has l id) (this-set m set _) ∙ removing-members low high id (m set) h;
+    others = λ other ne. ap (λ x. x other) e ∙ other-set m set other _ ne;
+  }
+
+pub emptied : (m n : Model) (set : SetName) → n ≡ cleared m set → Emptied m n set
+emptied m n set e = record {
+  here = λ id. ap (λ x. has (x set) id) e ∙ ap (λ l. has l id) (this-set m set []);
+  others = λ other ne. ap (λ x. x other) e ∙ other-set m set other _ ne;
+}
+
+module _ (m n : Model) (from to : SetName) (e : n ≡ moved m from to) where
+  kept : number from ≡ number to → n ≡ m
+  kept same = e ∙ cond-true _ _ _ (eq-eqb _ _ same)
+
+  went : (number from ≡ number to → ⊥) → n ≡ with-set (with-set m to (m from)) from []
+  went ne = e ∙ cond-false _ _ _ (ne-eqb _ _ ne)
+
+  pub moved-members : Moved m n from to
+  moved-members = record {
+    there = λ id. ⊎-elim
+      (λ (same : number from ≡ number to). ap (λ x. has (x to) id) (kept same) ∙ ap (λ s. has (m s) id) (same-name to from (sym same)))
+      (λ ne. ap (λ x. has (x to) id) (went ne) ∙ ap (λ l. has l id) (other-set (with-set m to (m from)) from to [] (λ q. ne (sym q)) ∙ this-set m to (m from)))
+      (cases-eq (number from) (number to));
+    gone = λ ne id. ap (λ x. has (x from) id) (went ne) ∙ ap (λ l. has l id) (this-set (with-set m to (m from)) from []);
+    others = λ other nf nt. ⊎-elim
+      (λ (same : number from ≡ number to). ap (λ x. x other) (kept same))
+      (λ ne. ap (λ x. x other) (went ne) ∙ other-set (with-set m to (m from)) from other [] nf ∙ other-set m to other (m from) nt)
+      (cases-eq (number from) (number to));
+  }

@@ -1,0 +1,5 @@
+use mathlib.Core.Path.{refl}
+use Rattle.store.proofs.laws.replicas_never_join.Needs as need
+
+pub returns : need.returns
+returns c = refl

@@ -1,0 +1,5 @@
+use Rattle.store.proofs.Models.{total-follows}
+use Rattle.store.proofs.laws.total_follows_each_set.Needs as need
+
+pub returns : need.returns
+returns c = total-follows

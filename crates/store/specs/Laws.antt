@@ -1,0 +1,58 @@
+-- The laws of IDs, ranges and sets, each asked for by the contract of a function of src/laws.rt.
+use mathlib.Core.Path.{_≡_}
+use mathlib.Core.Bool.{Bool, true, false, not, _&&_, _||_}
+use mathlib.Core.List.{List, [], _∷_}
+use Prim.Native.Nat.{ℕ, _+_, _-_, _*_, _^_, _≤_, _<_}
+use lib.ListN.{length}
+use Rattle.std.specs.Options.{Cases}
+use Rattle.std.specs.Orderings.{Decides}
+use Rattle.store.specs.Ids.{replid, counter, Lawful}
+use Rattle.store.specs.Ranges.{Span, apart, within, has, Canonical, with-range, without-range, next-range, goes-before, beginnings}
+use Rattle.store.specs.Sets.{Model, with-set, total}
+use Rattle.store.specs.declared.sets.SetName.{SetName}
+
+abbrev pub An-ID-is-a-replica-and-a-counter : Type 0
+An-ID-is-a-replica-and-a-counter = (r c : ℕ) → 1 ≤ r → r ≤ 65535 → c < 2 ^ 48 → (replid (r * 2 ^ 48 + c) ≡ r) × (counter (r * 2 ^ 48 + c) ≡ c) × Lawful (r * 2 ^ 48 + c) (r * 2 ^ 48 + c)
+
+-- two ranges stay two exactly where there is an ID between them, or their replicas differ
+abbrev pub Only-neighbours-of-one-replica-join : Type 0
+Only-neighbours-of-one-replica-join = (x y : ℕ) → Decides (apart x y) ((x < y) × (y ≡ x + 1 → replid x ≡ replid y → ⊥))
+
+-- counter 2^48 − 1 of REPLID 1 and counter 0 of REPLID 2 are two ranges
+abbrev pub Replicas-never-join : Type 0
+Replicas-never-join =
+    let last = 1 * 2 ^ 48 + (2 ^ 48 - 1) in
+    let first = 2 * 2 ^ 48 + 0 in
+    with-range first first (with-range last last []) ≡ (last, last) ∷ (first, first) ∷ []
+
+abbrev pub Only-IDs-are-in-sets : Type 0
+Only-IDs-are-in-sets = (rs : List Span) → Canonical rs → (id : ℕ) → has rs id ≡ true → (2 ^ 48 ≤ id) × (id < 2 ^ 64)
+
+-- a set is determined by its IDs
+abbrev pub One-list-for-one-set : Type 0
+One-list-for-one-set = (rs qs : List Span) → Canonical rs → Canonical qs → ((id : ℕ) → has rs id ≡ has qs id) → rs ≡ qs
+
+-- the number of ranges is the number of IDs whose predecessor of the same REPLID is not in the set
+abbrev pub Ranges-are-counted-by-their-first-IDs : Type 0
+Ranges-are-counted-by-their-first-IDs = (rs : List Span) → Canonical rs → length rs ≡ beginnings (has rs) (2 ^ 64)
+
+abbrev pub Adding-by-membership : Type 0
+Adding-by-membership = (rs : List Span) (low high : ℕ) → Canonical rs → Lawful low high → Canonical (with-range low high rs) × ((id : ℕ) → has (with-range low high rs) id ≡ (has rs id || within low high id))
+
+abbrev pub Removing-by-membership : Type 0
+Removing-by-membership = (rs : List Span) (low high : ℕ) → Canonical rs → Lawful low high → Canonical (without-range low high rs) × ((id : ℕ) → has (without-range low high rs) id ≡ (has rs id && not (within low high id)))
+
+-- a maximal range of the set, the lowest that does not end below n
+pub record Lowest-not-below (rs : List Span) (n : ℕ) (r : Span) : Type 0 where
+  pub reaches : n ≤ r .1
+  pub whole : (id : ℕ) → within (r .0) (r .1) id ≡ true → has rs id ≡ true
+  pub begins-here : goes-before (has rs) (r .0) ≡ false
+  pub ends-here : replid (r .1 + 1) ≡ replid (r .1) → has rs (r .1 + 1) ≡ false
+  pub none-lower : (id : ℕ) → n ≤ id → id < r .0 → has rs id ≡ false
+
+abbrev pub Next-is-the-lowest-range-not-below : Type 0
+Next-is-the-lowest-range-not-below = (rs : List Span) (n : ℕ) → Canonical rs → Cases (next-range rs n) ((id : ℕ) → n ≤ id → has rs id ≡ false) (Lowest-not-below rs n)
+
+-- a set that changes changes the total by its own ranges alone
+abbrev pub Total-follows-each-set : Type 0
+Total-follows-each-set = (m : Model) (set : SetName) (rs : List Span) → total (with-set m set rs) + length (m set) ≡ total m + length rs

@@ -1,0 +1,7 @@
+pub mod Ids
+pub mod Limits
+pub mod Refusals
+pub mod Ranges
+pub mod Sets
+pub mod Changes
+pub mod Laws
