@@ -1,3 +1,9 @@
 pub mod Orders
 pub mod Searches
 pub mod Spots
+pub mod Splices
+pub mod Covers
+pub mod Middles
+pub mod Joins
+pub mod Cuts
+pub mod Clears

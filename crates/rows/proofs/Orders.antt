@@ -86,3 +86,29 @@ later-row n (r ∷ rs) zero (suc b) d f h l = first-of (ends-at r + 2) rs b (f .
     first-of m (q ∷ qs) zero g k = g .0
     first-of m (q ∷ qs) (suc c) g k = omega (arith, first-of (ends-at q + 2) qs c (g .2) (omega arith), g .0, g .1)
 later-row n (r ∷ rs) (suc a) (suc b) d f h l = later-row (ends-at r + 2) rs a b d (f .2) (omega arith) (omega arith)
+
+pub fair-place : (n : ℕ) (rs : List Row) (k : ℕ) (d : Row) → Rising n rs → k < length rs → Fair (getD rs k d)
+fair-place n [] k d f l = absurd (omega arith)
+fair-place n (r ∷ rs) zero d f l = f .1
+fair-place n (r ∷ rs) (suc k) d f l = fair-place (ends-at r + 2) rs k d (f .2) (omega arith)
+
+-- the rows before a row, from it on, up to it, and behind it
+pub before-row : (n : ℕ) (rs : List Row) (k : ℕ) (d : Row) → Rising n rs → k < length rs → All (λ r. ends-at r + 2 ≤ begins-at (getD rs k d)) (take k rs)
+before-row n rs zero d f l = tt
+before-row n [] (suc k) d f l = tt
+before-row n (r ∷ rs) (suc k) d f l = (later-row n (r ∷ rs) 0 (suc k) d f (omega arith) l, before-row (ends-at r + 2) rs k d (f .2) (omega arith))
+
+pub from-row : (n : ℕ) (rs : List Row) (k : ℕ) (d : Row) → Rising n rs → k < length rs → All (λ r. begins-at (getD rs k d) ≤ begins-at r) (drop k rs)
+from-row n [] k d f l = absurd (omega arith)
+from-row n (r ∷ rs) zero d f l = begin-late (begins-at r) (r ∷ rs) (omega arith, f .1, f .2)
+from-row n (r ∷ rs) (suc k) d f l = from-row (ends-at r + 2) rs k d (f .2) (omega arith)
+
+pub up-to-row : (n : ℕ) (rs : List Row) (k : ℕ) (d : Row) → Rising n rs → k < length rs → All (λ r. ends-at r ≤ ends-at (getD rs k d)) (take (suc k) rs)
+up-to-row n [] k d f l = absurd (omega arith)
+up-to-row n (r ∷ rs) zero d f l = (omega arith, tt)
+up-to-row n (r ∷ rs) (suc k) d f l = (omega (arith, later-row n (r ∷ rs) 0 (suc k) d f (omega arith) l, fair-place n (r ∷ rs) (suc k) d f l), up-to-row (ends-at r + 2) rs k d (f .2) (omega arith))
+
+pub behind-row : (n : ℕ) (rs : List Row) (k : ℕ) (d : Row) → Rising n rs → k < length rs → All (λ r. ends-at (getD rs k d) + 2 ≤ begins-at r) (drop (suc k) rs)
+behind-row n [] k d f l = absurd (omega arith)
+behind-row n (r ∷ rs) zero d f l = begin-late (ends-at r + 2) rs (f .2)
+behind-row n (r ∷ rs) (suc k) d f l = behind-row (ends-at r + 2) rs k d (f .2) (omega arith)

@@ -13,7 +13,7 @@ use Rattle.rows.specs.declared.row.Row.{Row}
 use Rattle.rows.specs.Rows.{begins-at, ends-at, Fair, Rising}
 use Rattle.rows.specs.declared.table.Table.{Table}
 use Rattle.rows.specs.Tables.{rows-of}
-use Rattle.rows.proofs.Orders.{begin-late, later-row, rising-from, rising-take, rising-rest}
+use Rattle.rows.proofs.Orders.{begin-late, fair-place, later-row, rising-from, rising-take, rising-rest}
 
 blank : Row
 blank = record { label = 0; low = 0; high = 0 }
@@ -21,14 +21,9 @@ blank = record { label = 0; low = 0; high = 0 }
 ends-rise : (n : ℕ) (rs : List Row) (a b : ℕ) (d : Row) → Rising n rs → a ≤ b → b < length rs → ends-at (getD rs a d) ≤ ends-at (getD rs b d)
 ends-rise n rs a b d f h l =
     ⊎-elim
-    (λ lt. omega (arith, later-row n rs a b d f lt l, fair-place n rs b f l))
+    (λ lt. omega (arith, later-row n rs a b d f lt l, fair-place n rs b d f l))
     (λ ge. let e : a ≡ b = omega arith in subst (λ k. ends-at (getD rs a d) ≤ ends-at (getD rs k d)) e (omega arith))
     (cases-lt a b)
-  where
-    fair-place : (m : ℕ) (qs : List Row) (k : ℕ) → Rising m qs → k < length qs → begins-at (getD qs k d) ≤ ends-at (getD qs k d)
-    fair-place m [] k g t = absurd (omega arith)
-    fair-place m (q ∷ qs) zero g t = omega arith
-    fair-place m (q ∷ qs) (suc k) g t = fair-place (ends-at q + 2) qs k (g .2) (omega arith)
 
 -- the rows in use of a table
 module _ (t : Table) where

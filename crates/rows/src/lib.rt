@@ -1,5 +1,5 @@
 // A store in ordered rows, in memory that the caller hands over.
-//mod edit;
+mod edit;
 //mod labels;
 mod row;
 //mod rows_store;
