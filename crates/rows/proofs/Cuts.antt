@@ -18,7 +18,7 @@ use Rattle.store.proofs.Removing.{removing-keeps-order, removing-members}
 use Rattle.store.proofs.Members.{or-comm}
 use Rattle.rows.specs.declared.row.Row.{Row}
 use Rattle.rows.specs.Rows.{spot, begins-at, ends-at, Fair, Rising, ranges}
-use Rattle.rows.specs.Tables.{Changed}
+use Rattle.rows.specs.Tables.{maybe, Changed}
 use Rattle.rows.proofs.Orders.{before-row, behind-row, fair-place, rising-join, rising-take, rising-drop}
 use Rattle.rows.proofs.Spots.{ranges-canonical}
 use Rattle.rows.proofs.Covers.{covers, covers-++, covers-none, spot-in-row, has-by-spot, changed, parts, replaced}
@@ -67,10 +67,6 @@ module _ (rs : List Row) (g lo hi i j : ℕ) (f : Rising 0 rs) (small : g < 11) 
     (λ t id ne h.
       let other : eqb g t ≡ false = ne-eqb g t (λ e. ne (sym e)) in
       after-covers (spot t id) ∙ ap (λ b. covers rs (spot t id) && not b) (alone t id h ∙ ap (λ b. b && within lo hi id) other) ∙ and-true (covers rs (spot t id)))
-
--- a row, or none
-abbrev pub maybe : Bool → Row → List Row
-maybe b r = cond b (r ∷ []) []
 
 maybe-covers : (b : Bool) (r : Row) (p : ℕ) → covers (maybe b r) p ≡ (b && within (begins-at r) (ends-at r) p)
 maybe-covers true r p = or-comm (within (begins-at r) (ends-at r) p) false

@@ -7,3 +7,4 @@ pub mod Middles
 pub mod Joins
 pub mod Cuts
 pub mod Clears
+pub mod Finds

@@ -15,7 +15,7 @@ use Rattle.rows.specs.declared.table.Table.{Table}
 use Rattle.rows.specs.Tables.{rows-of}
 use Rattle.rows.proofs.Orders.{begin-late, fair-place, later-row, rising-from, rising-take, rising-rest}
 
-blank : Row
+pub blank : Row
 blank = record { label = 0; low = 0; high = 0 }
 
 ends-rise : (n : ℕ) (rs : List Row) (a b : ℕ) (d : Row) → Rising n rs → a ≤ b → b < length rs → ends-at (getD rs a d) ≤ ends-at (getD rs b d)

@@ -1,5 +1,6 @@
 -- What a table of rows holds, and what its changes answer.
 use mathlib.Core.Path.{_≡_}
+use mathlib.Core.Bool.{Bool, cond}
 use mathlib.Core.List.{List, [], _∷_}
 use Prim.Native.Nat.{ℕ, _<_}
 use lib.ListN.{length, take}
@@ -16,6 +17,10 @@ use Rattle.rows.specs.Rows.{Rising, ranges}
 -- the rows in use
 abbrev pub rows-of : Table → List Row
 rows-of t = take (t .used) (vec-items (t .rows))
+
+-- a row, or none
+abbrev pub maybe : Bool → Row → List Row
+maybe b r = cond b (r ∷ []) []
 
 -- rows in order that stand for the same as others but under one label
 pub record Changed (before : List Row) (label : ℕ) (wanted : List Span) (after : List Row) : Type 0 where

@@ -1,25 +1,18 @@
-// Changes of the rows in use: some give way to others.
+// Some of the rows in use give way to others.
 ghost use mathlib.Core.Path.{_≡_};
-ghost use mathlib.Core.Bool.{cond};
-ghost use mathlib.Core.List.{[], _++_};
-ghost use Prim.Native.Nat.{ℕ, _+_, _-_, _≤_, _<_, min, max};
-ghost use lib.Dec.{ltb};
-ghost use lib.ListN.{length, getD, take, drop};
+ghost use mathlib.Core.List.{_++_};
+ghost use Prim.Native.Nat.{ℕ, _+_, _-_, _≤_, _<_};
+ghost use lib.ListN.{length, take, drop};
 ghost use Rattle.std.specs.Of.Vec.{vec-items, vec-len};
 ghost use Rattle.std.specs.Results.{Cases};
-ghost use Rattle.store.specs.Ranges.{with-range, without-range};
 ghost use Rattle.store.specs.Refusals.{listed, store-full};
-ghost use Rattle.rows.specs.declared.row.Row.{Row as RowT};
-ghost use Rattle.rows.specs.Rows.{Rising, ranges};
-ghost use Rattle.rows.specs.Tables.{rows-of, Changed, Changed-if-it-fits};
+ghost use Rattle.rows.specs.Rows.{Rising};
+ghost use Rattle.rows.specs.Tables.{rows-of};
 use crate::row::Row;
-use crate::search::spot;
-use crate::table::Label;
 use crate::table::Table;
-use store::Range;
 use store::StoreRefusal;
 
-// Of the first `used` rows those from `from` to `to` give way to `new`; rows move only if their number changes.
+// Of the first `used` rows those from `from` to `to` give way to `new`; the others move only if the number changes.
 fn splice(rows: &mut Vec<Row>, used: usize, from: usize, to: usize, new: &[Row])
     requires up { ⌜ from ≤ to ⌝ }
     requires to { ⌜ to ≤ used ⌝ }
@@ -33,4 +26,35 @@ fn splice(rows: &mut Vec<Row>, used: usize, from: usize, to: usize, new: &[Row])
         rows.copy_within(to..used, end);
     }
     rows[from..end].copy_from_slice(new);
+}
+
+impl Table {
+    // The rows from `from` to `to` give way to `new`.
+    pub fn replace(&mut self, from: usize, to: usize, new: &[Row])
+        requires up { ⌜ from ≤ to ⌝ }
+        requires to { ⌜ to ≤ now self .used ⌝ }
+        requires room { ⌜ from + length (now new) + (now self .used - to) ≤ vec-len (now self .rows) ⌝ }
+        requires rising { ⌜ Rising 0 (take from (rows-of (now self)) ++ (now new ++ drop to (rows-of (now self)))) ⌝ }
+        ensures len { λ _. ⌜ vec-len (now (self .exit) .rows) ≡ vec-len (now (self .entry) .rows) ⌝ }
+        ensures rows { λ _. ⌜ rows-of (now (self .exit)) ≡ take from (rows-of (now (self .entry))) ++ (now (new .entry) ++ drop to (rows-of (now (self .entry)))) ⌝ }
+    {
+        splice(&mut self.rows, self.used, from, to, new);
+        self.used = from + new.len() + (self.used - to);
+    }
+
+    // The same, refused where there would be more rows than there are.
+    pub fn replace_if_it_fits(&mut self, from: usize, to: usize, new: &[Row]) -> Result<(), StoreRefusal>
+        requires few { ⌜ length (now new) ≤ 2 ⌝ }
+        requires up { ⌜ from ≤ to ⌝ }
+        requires to { ⌜ to ≤ now self .used ⌝ }
+        requires rising { ⌜ Rising 0 (take from (rows-of (now self)) ++ (now new ++ drop to (rows-of (now self)))) ⌝ }
+        ensures len { λ _. ⌜ vec-len (now (self .exit) .rows) ≡ vec-len (now (self .entry) .rows) ⌝ }
+        ensures rows { λ r. ⌜ Cases r (λ _. rows-of (now (self .exit)) ≡ take from (rows-of (now (self .entry))) ++ (now (new .entry) ++ drop to (rows-of (now (self .entry))))) (λ e. (listed e ≡ store-full) × (rows-of (now (self .exit)) ≡ rows-of (now (self .entry))) × (vec-len (now (self .entry) .rows) < length (take from (rows-of (now (self .entry))) ++ (now (new .entry) ++ drop to (rows-of (now (self .entry))))))) ⌝ }
+    {
+        if from + new.len() + (self.used - to) > self.rows.len() {
+            return Err(StoreRefusal::Full);
+        }
+        self.replace(from, to, new);
+        Ok(())
+    }
 }

@@ -1,4 +1,5 @@
 // A store in ordered rows, in memory that the caller hands over.
+mod change;
 mod edit;
 //mod labels;
 mod row;
