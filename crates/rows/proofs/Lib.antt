@@ -8,3 +8,5 @@ pub mod Joins
 pub mod Cuts
 pub mod Clears
 pub mod Finds
+pub mod Swaps
+pub mod Meanings

@@ -72,6 +72,9 @@ number-small ToldSeen = lit< tt
 number-small ToldSeenFai = lit< tt
 number-small ToldRead = lit< tt
 
+pub set-of-number : (n : ℕ) → n < 11 → (set : SetName) × (number set ≡ n)
+set-of-number n h = ⊎-elim (λ (e : n ≡ 0). (KeptGiven, sym e)) (λ n0. ⊎-elim (λ (e : n ≡ 1). (KeptSeen, sym e)) (λ n1. ⊎-elim (λ (e : n ≡ 2). (KeptSeenFai, sym e)) (λ n2. ⊎-elim (λ (e : n ≡ 3). (KeptRead, sym e)) (λ n3. ⊎-elim (λ (e : n ≡ 4). (TrackedGiven, sym e)) (λ n4. ⊎-elim (λ (e : n ≡ 5). (TrackedSeen, sym e)) (λ n5. ⊎-elim (λ (e : n ≡ 6). (TrackedSeenFai, sym e)) (λ n6. ⊎-elim (λ (e : n ≡ 7). (ToldGiven, sym e)) (λ n7. ⊎-elim (λ (e : n ≡ 8). (ToldSeen, sym e)) (λ n8. ⊎-elim (λ (e : n ≡ 9). (ToldSeenFai, sym e)) (λ n9. (ToldRead, omega arith)) (cases-eq n 9)) (cases-eq n 8)) (cases-eq n 7)) (cases-eq n 6)) (cases-eq n 5)) (cases-eq n 4)) (cases-eq n 3)) (cases-eq n 2)) (cases-eq n 1)) (cases-eq n 0)
+
 module _ (m n : Model) (set : SetName) (low high : ℕ) where
   pub added : n ≡ put-into m set low high → low ≤ high → Canonical (m set) → Added m n set low high
   added e h f = record {

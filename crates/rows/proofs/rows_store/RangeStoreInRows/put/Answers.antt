@@ -1,0 +1,18 @@
+-- The change under the set's label is one of the set.
+use native.Mathlib.Omega.{arith}
+use Rattle.std.specs.Of.Vec.{vec-len}
+use Rattle.store.specs.Ranges.{with-range}
+use Rattle.rows.specs.Meaning.{meaning}
+use Rattle.rows.specs.Tables.{rows-of}
+use Rattle.rows.proofs.Searches.{in-order, in-use}
+use Rattle.rows.proofs.Spots.{ranges-canonical}
+use Rattle.rows.proofs.Meanings.{granted, granted-added}
+use Rattle.rows.proofs.rows_store.RangeStoreInRows.put.Needs as need
+
+pub returns : need.returns
+returns c =
+    let x = c .args .self .now in
+    let t = c .put .last .self in
+    let r = c .args .range in
+    let model = granted (x .labels .label) (x .labels .owner) (x .labels .owned) (x .labels .labelled) (vec-len (x .table .rows)) (rows-of (x .table)) (rows-of t) (c .args .set) (c .of .result .value) (with-range (r .low) (r .high)) (c .put .result) (c .of .ensures) (omega (arith, in-use t, t .fits, c .put .ensures .len)) (c .put .ensures .rows) in
+    record { room = c .put .ensures .len; model = model; members = granted-added (vec-len (x .table .rows)) (meaning x) _ (c .args .set) (r .low) (r .high) (r .rising) (c .put .result) (ranges-canonical _ _ (in-order (x .table))) model }

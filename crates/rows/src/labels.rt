@@ -1,0 +1,55 @@
+// Which label each set has: a set moves to another by their labels, and no row moves.
+ghost use mathlib.Core.Path.{_≡_};
+ghost use Prim.Native.Nat.{ℕ, _<_};
+ghost use lib.ListN.{length, getD, set as put};
+ghost use Rattle.store.specs.Sets.{number};
+ghost use Rattle.rows.specs.Labels.{Back};
+use crate::table::Label;
+use store::SetName;
+
+/// The label of each set, and of each label the set that has it, both by number.
+#[derive(Clone, Copy)]
+pub struct Labels {
+    label: [u8; 11],
+    owner: [u8; 11],
+    ghost labels: { length label ≡ 11 },
+    ghost owners: { length owner ≡ 11 },
+    ghost owned: { Back label owner },
+    ghost labelled: { Back owner label },
+}
+
+impl Labels {
+    /// Each set has its own number for its label.
+    pub fn new() -> Labels {
+        let own = [0, 1, 2, 3, 4, 5, 6, 7, 8, 9, 10];
+        Labels { label: own, owner: own }
+    }
+
+    /// The label of a set.
+    pub fn of(&self, set: SetName) -> Label
+        ensures { λ r. ⌜ r .value ≡ getD (now (self .entry) .label) (number set) 0 ⌝ }
+    {
+        Label { value: self.label[set.number() as usize] }
+    }
+
+    /// Two sets change labels.
+    pub fn swap(&mut self, one: SetName, two: SetName)
+        ensures { λ _. ⌜ now (self .exit) .label ≡ put (put (now (self .entry) .label) (number one) (getD (now (self .entry) .label) (number two) 0)) (number two) (getD (now (self .entry) .label) (number one) 0) ⌝ }
+    {
+        let a = set_index(one);
+        let b = set_index(two);
+        let label_a = self.label[a];
+        let label_b = self.label[b];
+        self.label[a] = label_b;
+        self.label[b] = label_a;
+        self.owner[label_a as usize] = b as u8;
+        self.owner[label_b as usize] = a as u8;
+    }
+}
+
+fn set_index(set: SetName) -> usize
+    ensures value { λ r. ⌜ r ≡ number set ⌝ }
+    ensures small { λ r. ⌜ r < 11 ⌝ }
+{
+    set.number() as usize
+}
