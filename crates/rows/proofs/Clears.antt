@@ -19,11 +19,10 @@ use Rattle.rows.proofs.Orders.{fair-rows, rising-join, rising-take, rising-dro
 use Rattle.rows.proofs.Covers.{covers, covers-none, changed, parts, replaced}
 use Rattle.rows.proofs.Middles.{all-both, below-place, from-place}
 
-
 -- what the two searches of a clear find
 module _ (rs : List Row) (g i j : ℕ) (f : Rising 0 rs) (up : i ≤ j)
-  (before : All (λ r. ends-at r < spot g 0) (take i rs)) (from : All (λ r. spot g 0 ≤ ends-at r) (drop i rs))
-  (to : All (λ r. ends-at r < spot (g + 1) 0) (take j rs)) (behind : All (λ r. spot (g + 1) 0 ≤ ends-at r) (drop j rs)) where
+    (before : All (λ r. ends-at r < spot g 0) (take i rs)) (from : All (λ r. spot g 0 ≤ ends-at r) (drop i rs))
+    (to : All (λ r. ends-at r < spot (g + 1) 0) (take j rs)) (behind : All (λ r. spot (g + 1) 0 ≤ ends-at r) (drop j rs)) where
   abbrev after : List Row
   after = take i rs ++ ([] ++ drop j rs)
 
@@ -35,8 +34,8 @@ module _ (rs : List Row) (g i j : ℕ) (f : Rising 0 rs) (up : i ≤ j)
 
   after-rises : Rising 0 after
   after-rises = rising-join 0 (spot g 0) (take i rs) (drop j rs) (rising-take 0 i rs f)
-    (all-both (λ r. ends-at r < spot g 0) Fair (λ r. ends-at r + 2 ≤ spot g 0) (λ r b h. let lt : r .label < g = omega arith in omega arith) (take i rs) before first-fair) (omega arith)
-    (rising-drop 0 j (spot g 0) rs f (all-both (λ r. spot (g + 1) 0 ≤ ends-at r) Fair (λ r. spot g 0 ≤ begins-at r) (λ r b h. let gt : g < r .label = omega arith in omega arith) (drop j rs) behind last-fair))
+      (all-both (λ r. ends-at r < spot g 0) Fair (λ r. ends-at r + 2 ≤ spot g 0) (λ r b h. let lt : r .label < g = omega arith in omega arith) (take i rs) before first-fair) (omega arith)
+      (rising-drop 0 j (spot g 0) rs f (all-both (λ r. spot (g + 1) 0 ≤ ends-at r) Fair (λ r. spot g 0 ≤ begins-at r) (λ r b h. let gt : g < r .label = omega arith in omega arith) (drop j rs) behind last-fair))
 
   none-left : (id : ℕ) → id < 2 ^ 64 → covers after (spot g id) ≡ false
   none-left id h =
@@ -57,7 +56,7 @@ module _ (rs : List Row) (g i j : ℕ) (f : Rising 0 rs) (up : i ≤ j)
 
   pub cleared : Changed rs g [] after
   cleared = changed rs after g [] f after-rises tt none-left
-    (λ t id ne h.
+      (λ t id ne h.
       replaced (take i rs) [] (drop j rs) (spot t id)
       ∙ ap (λ b. (covers (take i rs) (spot t id) || b) || covers (drop j rs) (spot t id)) (sym (middle-none t id ne h))
       ∙ sym (parts rs i j up (spot t id)))

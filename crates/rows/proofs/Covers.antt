@@ -30,9 +30,9 @@ covers-++ (x ∷ xs) ys p = ap (λ b. within (begins-at x) (ends-at x) p || b) (
 -- a row covers an ID's spot exactly if the ID is in its range, under its label
 pub spot-in-row : (r : Row) (s id : ℕ) → Fair r → id < 2 ^ 64 → within (begins-at r) (ends-at r) (spot s id) ≡ (eqb (r .label) s && within (r .low) (r .high) id)
 spot-in-row r s id f h = ⊎-elim
-  (λ (e : r .label ≡ s). let t : eqb (r .label) s ≡ true = eq-eqb _ _ e in rw t (same e))
-  (λ ne. let t : eqb (r .label) s ≡ false = ne-eqb _ _ ne in rw t (other ne))
-  (cases-label (r .label) s)
+    (λ (e : r .label ≡ s). let t : eqb (r .label) s ≡ true = eq-eqb _ _ e in rw t (same e))
+    (λ ne. let t : eqb (r .label) s ≡ false = ne-eqb _ _ ne in rw t (other ne))
+    (cases-label (r .label) s)
   where
     cases-label : (a b : ℕ) → (a ≡ b) ⊎ (a ≡ b → ⊥)
     cases-label a b = ⊎-elim (λ e. inl (eqb-true a b e)) (λ e. inr (eqb-false a b e)) (cases-bool (eqb a b))
@@ -42,9 +42,9 @@ spot-in-row r s id f h = ⊎-elim
 
     other : (r .label ≡ s → ⊥) → within (begins-at r) (ends-at r) (spot s id) ≡ false
     other ne = ⊎-elim
-      (λ lt. let k : spot s id < begins-at r = omega (arith, f .1) in grind (arith, tells))
-      (λ ge. let k : ends-at r < spot s id = omega (arith, f .1) in grind (arith, tells))
-      (cases-lt s (r .label))
+        (λ lt. let k : spot s id < begins-at r = omega (arith, f .1) in grind (arith, tells))
+        (λ ge. let k : ends-at r < spot s id = omega (arith, f .1) in grind (arith, tells))
+        (cases-lt s (r .label))
 
 pub has-by-spot : (n s id : ℕ) (rs : List Row) → Rising n rs → id < 2 ^ 64 → has (ranges s rs) id ≡ covers rs (spot s id)
 has-by-spot n s id [] f h = refl
@@ -64,9 +64,9 @@ one-list-of-ids rs qs f g same = one-list 0 0 rs qs f g (λ id. ⊎-elim (same i
 
 -- rows in order whose spots are those of the wanted ranges under one label, and as before under every other
 pub changed : (rs qs : List Row) (s : ℕ) (wanted : List Span) → Rising 0 rs → Rising 0 qs → Canonical wanted
-  → ((id : ℕ) → id < 2 ^ 64 → covers qs (spot s id) ≡ has wanted id)
-  → ((t id : ℕ) → (t ≡ s → ⊥) → id < 2 ^ 64 → covers qs (spot t id) ≡ covers rs (spot t id))
-  → Changed rs s wanted qs
+    → ((id : ℕ) → id < 2 ^ 64 → covers qs (spot s id) ≡ has wanted id)
+    → ((t id : ℕ) → (t ≡ s → ⊥) → id < 2 ^ 64 → covers qs (spot t id) ≡ covers rs (spot t id))
+    → Changed rs s wanted qs
 changed rs qs s wanted f g c here others = record {
   in-order = g;
   here = one-list-of-ids (ranges s qs) wanted (ranges-canonical s qs g) c (λ id h. has-by-spot 0 s id qs g h ∙ here id h);
@@ -77,9 +77,9 @@ changed rs qs s wanted f g c here others = record {
 pub covers-between : (a b p : ℕ) (rs : List Row) → All (λ r. a ≤ begins-at r) rs → All (λ r. ends-at r ≤ b) rs → covers rs p ≡ true → (a ≤ p) × (p ≤ b)
 covers-between a b p [] f g h = absurd (both-ways false refl h)
 covers-between a b p (r ∷ rs) f g h = ⊎-elim
-  (λ (w : within (begins-at r) (ends-at r) p ≡ true). let k : (begins-at r ≤ p) × (p ≤ ends-at r) = grind (arith, tells) in omega (arith, f .0, g .0))
-  (λ w. covers-between a b p rs (f .1) (g .1) w)
-  (or-cases (within (begins-at r) (ends-at r) p) (covers rs p) h)
+    (λ (w : within (begins-at r) (ends-at r) p ≡ true). let k : (begins-at r ≤ p) × (p ≤ ends-at r) = grind (arith, tells) in omega (arith, f .0, g .0))
+    (λ w. covers-between a b p rs (f .1) (g .1) w)
+    (or-cases (within (begins-at r) (ends-at r) p) (covers rs p) h)
 
 pub covers-none : (p : ℕ) (rs : List Row) → All (λ r. (ends-at r < p) ⊎ (p < begins-at r)) rs → covers rs p ≡ false
 covers-none p [] f = refl

@@ -30,9 +30,9 @@ and-true false = refl
 
 -- rows in the place of those from i to j, which cover their spots but for those of low..high
 module _ (rs : List Row) (g lo hi i j : ℕ) (f : Rising 0 rs) (small : g < 11) (law : Lawful lo hi) (up : i ≤ j) (ns : List Row)
-  (before : All (λ r. ends-at r < spot g lo) (take i rs)) (behind : All (λ r. spot g hi + 1 ≤ begins-at r) (drop j rs))
-  (rises : Rising 0 (take i rs ++ (ns ++ drop j rs)))
-  (means : (p : ℕ) → covers ns p ≡ (covers (drop i (take j rs)) p && not (within (spot g lo) (spot g hi) p))) where
+    (before : All (λ r. ends-at r < spot g lo) (take i rs)) (behind : All (λ r. spot g hi + 1 ≤ begins-at r) (drop j rs))
+    (rises : Rising 0 (take i rs ++ (ns ++ drop j rs)))
+    (means : (p : ℕ) → covers ns p ≡ (covers (drop i (take j rs)) p && not (within (spot g lo) (spot g hi) p))) where
   abbrev after : List Row
   after = take i rs ++ (ns ++ drop j rs)
 
@@ -41,8 +41,8 @@ module _ (rs : List Row) (g lo hi i j : ℕ) (f : Rising 0 rs) (small : g < 11) 
       replaced (take i rs) ns (drop j rs) p
       ∙ ap (λ b. (covers (take i rs) p || b) || covers (drop j rs) p) (means p)
       ∙ but-for (covers (take i rs) p) (covers (drop i (take j rs)) p) (covers (drop j rs) p) (within (spot g lo) (spot g hi) p)
-        (λ w. let b = bounds (spot g lo) (spot g hi) p w in covers-none p (take i rs) (all-weaker (λ r. ends-at r < spot g lo) (λ r. (ends-at r < p) ⊎ (p < begins-at r)) (λ r h. inl (omega arith)) (take i rs) before))
-        (λ w. let b = bounds (spot g lo) (spot g hi) p w in covers-none p (drop j rs) (all-weaker (λ r. spot g hi + 1 ≤ begins-at r) (λ r. (ends-at r < p) ⊎ (p < begins-at r)) (λ r h. inr (omega arith)) (drop j rs) behind))
+      (λ w. let b = bounds (spot g lo) (spot g hi) p w in covers-none p (take i rs) (all-weaker (λ r. ends-at r < spot g lo) (λ r. (ends-at r < p) ⊎ (p < begins-at r)) (λ r h. inl (omega arith)) (take i rs) before))
+      (λ w. let b = bounds (spot g lo) (spot g hi) p w in covers-none p (drop j rs) (all-weaker (λ r. spot g hi + 1 ≤ begins-at r) (λ r. (ends-at r < p) ⊎ (p < begins-at r)) (λ r h. inr (omega arith)) (drop j rs) behind))
       ∙ ap (λ b. b && not (within (spot g lo) (spot g hi) p)) (sym (parts rs i j up p))
     where
       but-for : (a m b w : Bool) → (w ≡ true → a ≡ false) → (w ≡ true → b ≡ false) → ((a || (m && not w)) || b) ≡ (((a || m) || b) && not w)
@@ -60,11 +60,11 @@ module _ (rs : List Row) (g lo hi i j : ℕ) (f : Rising 0 rs) (small : g < 11) 
 
   pub cut : Changed rs g (without-range lo hi (ranges g rs)) after
   cut = changed rs after g (without-range lo hi (ranges g rs)) f rises (removing-keeps-order 0 lo hi (ranges g rs) (law .1) (ranges-canonical g rs f))
-    (λ id h.
+      (λ id h.
       let same : eqb g g ≡ true = eq-eqb g g refl in
       after-covers (spot g id) ∙ ap (λ b. covers rs (spot g id) && not b) (alone g id h ∙ ap (λ b. b && within lo hi id) same)
       ∙ ap (λ b. b && not (within lo hi id)) (sym (has-by-spot 0 g id rs f h)) ∙ sym (removing-members lo hi id (ranges g rs) (law .1)))
-    (λ t id ne h.
+      (λ t id ne h.
       let other : eqb g t ≡ false = ne-eqb g t (λ e. ne (sym e)) in
       after-covers (spot t id) ∙ ap (λ b. covers rs (spot t id) && not b) (alone t id h ∙ ap (λ b. b && within lo hi id) other) ∙ and-true (covers rs (spot t id)))
 
@@ -74,8 +74,8 @@ maybe-covers false r p = refl
 
 -- what the two searches of a take find
 module _ (rs : List Row) (g lo hi i j : ℕ) (d : Row) (f : Rising 0 rs) (small : g < 11) (law : Lawful lo hi) (lj : j ≤ length rs) (up : i ≤ j)
-  (before : All (λ r. ends-at r < spot g lo) (take i rs)) (after : All (λ r. spot g lo ≤ ends-at r) (drop i rs))
-  (begun : All (λ r. begins-at r < spot g hi + 1) (take j rs)) (behind : All (λ r. spot g hi + 1 ≤ begins-at r) (drop j rs)) where
+    (before : All (λ r. ends-at r < spot g lo) (take i rs)) (after : All (λ r. spot g lo ≤ ends-at r) (drop i rs))
+    (begun : All (λ r. begins-at r < spot g hi + 1) (take j rs)) (behind : All (λ r. spot g hi + 1 ≤ begins-at r) (drop j rs)) where
   -- no row is touched
   pub untouched : j ≤ i → Changed rs g (without-range lo hi (ranges g rs)) rs
   untouched le =
@@ -130,14 +130,14 @@ module _ (rs : List Row) (g lo hi i j : ℕ) (d : Row) (f : Rising 0 rs) (small 
     -- the part above and the rows behind rise from any spot that is not past the range
     upper-rises : (m : ℕ) → m ≤ spot g hi + 1 → Rising m (maybe (ltb hi (last .high)) upper ++ drop j rs)
     upper-rises m h = cond-both (ltb hi (last .high)) (upper ∷ []) [] (λ l. Rising m (l ++ drop j rs))
-      (λ e. let k = upper-ends (ltb-true _ _ e) in
+        (λ e. let k = upper-ends (ltb-true _ _ e) in
         (omega (arith, k .0), k .2, rising-drop 0 j (ends-at upper + 2) rs f (all-weaker (λ r. ends-at last + 2 ≤ begins-at r) (λ r. ends-at upper + 2 ≤ begins-at r) (λ r b. omega (arith, k .1)) (drop j rs) behind-last)))
-      (λ e. rising-drop 0 j m rs f (all-weaker (λ r. spot g hi + 1 ≤ begins-at r) (λ r. m ≤ begins-at r) (λ r b. omega arith) (drop j rs) behind))
+        (λ e. rising-drop 0 j m rs f (all-weaker (λ r. spot g hi + 1 ≤ begins-at r) (λ r. m ≤ begins-at r) (λ r b. omega arith) (drop j rs) behind))
 
     parts-rise : Rising (begins-at first) (maybe (ltb (first .low) lo) lower ++ (maybe (ltb hi (last .high)) upper ++ drop j rs))
     parts-rise = cond-both (ltb (first .low) lo) (lower ∷ []) [] (λ l. Rising (begins-at first) (l ++ (maybe (ltb hi (last .high)) upper ++ drop j rs)))
-      (λ e. let k = lower-ends (ltb-true _ _ e) in (omega (arith, k .0), k .2, upper-rises (ends-at lower + 2) (omega (arith, k .1))))
-      (λ e. upper-rises (begins-at first) (omega (arith, first-overlaps)))
+        (λ e. let k = lower-ends (ltb-true _ _ e) in (omega (arith, k .0), k .2, upper-rises (ends-at lower + 2) (omega (arith, k .1))))
+        (λ e. upper-rises (begins-at first) (omega (arith, first-overlaps)))
 
     -- a spot in the part below, and in the part above
     module _ (p : ℕ) where
@@ -149,11 +149,11 @@ module _ (rs : List Row) (g lo hi i j : ℕ) (d : Row) (f : Rising 0 rs) (small 
 
       into : (low-part || high-part) ≡ true → (covers (drop i (take j rs)) p && not (within (spot g lo) (spot g hi) p)) ≡ true
       into w = ⊎-elim
-        (λ l. let a = and-parts _ _ l in let k = lower-ends (ltb-true _ _ (a .0)) in let b = bounds _ _ p (a .1) in
+          (λ l. let a = and-parts _ _ l in let k = lower-ends (ltb-true _ _ (a .0)) in let b = bounds _ _ p (a .1) in
           and-from _ _ (middle-covers rs i j d f lt lj i p (omega arith) lt (omega (arith, k, b)) (omega (arith, k, b, first-overlaps))) (not-from-false _ (let o : within (spot g lo) (spot g hi) p ≡ false = (let q : p < spot g lo = omega (arith, k, b) in grind (arith, tells)) in o)))
-        (λ r. let a = and-parts _ _ r in let k = upper-ends (ltb-true _ _ (a .0)) in let b = bounds _ _ p (a .1) in
+          (λ r. let a = and-parts _ _ r in let k = upper-ends (ltb-true _ _ (a .0)) in let b = bounds _ _ p (a .1) in
           and-from _ _ (middle-covers rs i j d f lt lj (j - 1) p (omega arith) (omega arith) (omega (arith, k, b, last-overlaps)) (omega (arith, k, b))) (not-from-false _ (let o : within (spot g lo) (spot g hi) p ≡ false = (let q : spot g hi < p = omega (arith, k, b) in grind (arith, tells)) in o)))
-        (or-cases low-part high-part w)
+          (or-cases low-part high-part w)
 
       out : (covers (drop i (take j rs)) p && not (within (spot g lo) (spot g hi) p)) ≡ true → (low-part || high-part) ≡ true
       out w =
@@ -161,16 +161,16 @@ module _ (rs : List Row) (g lo hi i j : ℕ) (d : Row) (f : Rising 0 rs) (small 
           let b = middle-between rs i j d f lt lj p (a .0) in
           ⊎-elim
           (λ (low : p < spot g lo).
-            let h : first .low < lo = omega (arith, b, first-label) in
-            let k = lower-ends h in
-            or-left _ _ (and-from _ _ (lt-ltb _ _ h) (inside _ _ p (omega (arith, k, b)) (omega (arith, k)))))
+          let h : first .low < lo = omega (arith, b, first-label) in
+          let k = lower-ends h in
+          or-left _ _ (and-from _ _ (lt-ltb _ _ h) (inside _ _ p (omega (arith, k, b)) (omega (arith, k)))))
           (λ ge. ⊎-elim
-            (λ (high : spot g hi < p).
-              let h : hi < last .high = omega (arith, b, last-label) in
-              let k = upper-ends h in
-              or-right low-part high-part (and-from _ _ (lt-ltb _ _ h) (inside _ _ p (omega (arith, k)) (omega (arith, k, b)))))
-            (λ le. absurd (both-ways _ (not-true _ (a .1)) (inside (spot g lo) (spot g hi) p ge le)))
-            (cases-lt (spot g hi) p))
+          (λ (high : spot g hi < p).
+          let h : hi < last .high = omega (arith, b, last-label) in
+          let k = upper-ends h in
+          or-right low-part high-part (and-from _ _ (lt-ltb _ _ h) (inside _ _ p (omega (arith, k)) (omega (arith, k, b)))))
+          (λ le. absurd (both-ways _ (not-true _ (a .1)) (inside (spot g lo) (spot g hi) p ge le)))
+          (cases-lt (spot g hi) p))
           (cases-lt p (spot g lo))
 
     parts-mean : (p : ℕ) → covers (maybe (ltb (first .low) lo) lower ++ maybe (ltb hi (last .high)) upper) p ≡ (covers (drop i (take j rs)) p && not (within (spot g lo) (spot g hi) p))
@@ -182,6 +182,6 @@ module _ (rs : List Row) (g lo hi i j : ℕ) (d : Row) (f : Rising 0 rs) (small 
 
     pub left-over : Changed rs g (without-range lo hi (ranges g rs)) (take i rs ++ ((maybe (ltb (first .low) lo) lower ++ maybe (ltb hi (last .high)) upper) ++ drop j rs))
     left-over = cut rs g lo hi i j f small law up (maybe (ltb (first .low) lo) lower ++ maybe (ltb hi (last .high)) upper) before behind
-      (rising-join 0 (begins-at first) (take i rs) ((maybe (ltb (first .low) lo) lower ++ maybe (ltb hi (last .high)) upper) ++ drop j rs) (rising-take 0 i rs f) (before-row 0 rs i d f (omega arith)) (omega arith)
+        (rising-join 0 (begins-at first) (take i rs) ((maybe (ltb (first .low) lo) lower ++ maybe (ltb hi (last .high)) upper) ++ drop j rs) (rising-take 0 i rs f) (before-row 0 rs i d f (omega arith)) (omega arith)
         (subst (Rising (begins-at first)) (sym (append-assoc (maybe (ltb (first .low) lo) lower) (maybe (ltb hi (last .high)) upper) (drop j rs))) parts-rise))
-      parts-mean
+        parts-mean

@@ -29,8 +29,8 @@ use Rattle.rows.proofs.Clears.{cleared}
 
 -- rows wanted in the place of others, and the answer to that
 pub answered : {X : Type 0} (limit : ℕ) (before after wanted : List Row) (g : ℕ) (spans : List Span) (r : Result X StoreRefusal)
-  → Cases r (λ _. after ≡ wanted) (λ e. (listed e ≡ store-full) × (after ≡ before) × (limit < length wanted))
-  → Changed before g spans wanted → Changed-if-it-fits limit before g spans after r
+    → Cases r (λ _. after ≡ wanted) (λ e. (listed e ≡ store-full) × (after ≡ before) × (limit < length wanted))
+    → Changed before g spans wanted → Changed-if-it-fits limit before g spans after r
 answered limit before after wanted g spans (Ok x) h changes = subst (Changed before g spans) (sym h) changes
 answered limit before after wanted g spans (Err e) h changes = (h .0, h .1, (wanted, changes, h .2))
 
@@ -52,24 +52,24 @@ in-turn t at to i j h w = ordered-places (rows-of t) i j at to blank (in-order t
 module _ (t : Table) (g lo hi i j : ℕ) (small : g < 11) (law : Lawful lo hi) where
   -- one row for the range and what it touches
   pub put-changes : Found t (spot g lo - 1) (spot g hi + 2) i j → (row : Row)
-    → (j ≤ i → row ≡ record { label = g; low = lo; high = hi })
-    → ((d : Row) → i < j → row ≡ record { label = g; low = min lo (getD (rows-of t) i d .low); high = max hi (getD (rows-of t) (j - 1) d .high) })
-    → Changed (rows-of t) g (with-range lo hi (ranges g (rows-of t))) (take i (rows-of t) ++ (row ∷ [] ++ drop j (rows-of t)))
+      → (j ≤ i → row ≡ record { label = g; low = lo; high = hi })
+      → ((d : Row) → i < j → row ≡ record { label = g; low = min lo (getD (rows-of t) i d .low); high = max hi (getD (rows-of t) (j - 1) d .high) })
+      → Changed (rows-of t) g (with-range lo hi (ranges g (rows-of t))) (take i (rows-of t) ++ (row ∷ [] ++ drop j (rows-of t)))
   put-changes w row alone whole = ⊎-elim
-    (λ lt. subst (λ x. Changed (rows-of t) g (with-range lo hi (ranges g (rows-of t))) (take i (rows-of t) ++ (x ∷ drop j (rows-of t)))) (sym (whole blank lt))
+      (λ lt. subst (λ x. Changed (rows-of t) g (with-range lo hi (ranges g (rows-of t))) (take i (rows-of t) ++ (x ∷ drop j (rows-of t)))) (sym (whole blank lt))
       (together (rows-of t) g lo hi i j blank (in-order t) small law (w .i-inside) (w .j-inside) (omega arith) (w .ended) (w .not-ended) (w .begun) (w .not-begun) lt))
-    (λ le. subst (λ x. Changed (rows-of t) g (with-range lo hi (ranges g (rows-of t))) (take i (rows-of t) ++ (x ∷ drop j (rows-of t)))) (sym (alone le))
+      (λ le. subst (λ x. Changed (rows-of t) g (with-range lo hi (ranges g (rows-of t))) (take i (rows-of t) ++ (x ∷ drop j (rows-of t)))) (sym (alone le))
       (lone (rows-of t) g lo hi i j blank (in-order t) small law (w .i-inside) (w .j-inside) (in-turn t (spot g lo - 1) (spot g hi + 2) i j (omega arith) w) (w .ended) (w .not-ended) (w .begun) (w .not-begun) le))
-    (cases-lt i j)
+      (cases-lt i j)
 
   pub take-none : Found t (spot g lo) (spot g hi + 1) i j → j ≤ i → Changed (rows-of t) g (without-range lo hi (ranges g (rows-of t))) (rows-of t)
   take-none w le = untouched (rows-of t) g lo hi i j blank (in-order t) small law (w .j-inside) (in-turn t (spot g lo) (spot g hi + 1) i j (omega arith) w) (w .ended) (w .not-ended) (w .begun) (w .not-begun) le
 
   -- the parts that the range leaves of the rows that it overlaps
   pub take-changes : Found t (spot g lo) (spot g hi + 1) i j → i < j → (first last : Row) (ns : List Row)
-    → getD (rows-of t) i blank ≡ first → getD (rows-of t) (j - 1) blank ≡ last
-    → ns ≡ maybe (ltb (first .low) lo) (record { label = g; low = first .low; high = lo - 1 }) ++ maybe (ltb hi (last .high)) (record { label = g; low = min (hi + 1) (2 ^ 64 - 1); high = last .high })
-    → Changed (rows-of t) g (without-range lo hi (ranges g (rows-of t))) (take i (rows-of t) ++ (ns ++ drop j (rows-of t)))
+      → getD (rows-of t) i blank ≡ first → getD (rows-of t) (j - 1) blank ≡ last
+      → ns ≡ maybe (ltb (first .low) lo) (record { label = g; low = first .low; high = lo - 1 }) ++ maybe (ltb hi (last .high)) (record { label = g; low = min (hi + 1) (2 ^ 64 - 1); high = last .high })
+      → Changed (rows-of t) g (without-range lo hi (ranges g (rows-of t))) (take i (rows-of t) ++ (ns ++ drop j (rows-of t)))
   take-changes w lt first last ns p q e =
       subst (λ l. Changed (rows-of t) g (without-range lo hi (ranges g (rows-of t))) (take i (rows-of t) ++ (l ++ drop j (rows-of t)))) (sym (e ∙ ap (both first) (sym q) ∙ ap (λ x. both x (getD (rows-of t) (j - 1) blank)) (sym p)))
       (left-over (rows-of t) g lo hi i j blank (in-order t) small law (w .j-inside) (omega arith) (w .ended) (w .not-ended) (w .begun) (w .not-begun) lt (min (hi + 1) (2 ^ 64 - 1)) (λ h. omega (arith, fair-place 0 (rows-of t) (j - 1) blank (in-order t) (omega (arith, w .j-inside)))))
@@ -97,7 +97,7 @@ pub record Cleared-between (t : Table) (g i j : ℕ) : Type 0 where
   pub behind : All (λ r. spot (g + 1) 0 ≤ ends-at r) (drop j (rows-of t))
 
 pub cleared-between-at : (t : Table) (g i j x y : ℕ) → x ≡ spot g 0 → y ≡ spot (g + 1) 0 → i ≤ length (rows-of t) → j ≤ length (rows-of t)
-  → All (λ r. ends-at r < x) (take i (rows-of t)) → All (λ r. x ≤ ends-at r) (drop i (rows-of t)) → All (λ r. ends-at r < y) (take j (rows-of t)) → All (λ r. y ≤ ends-at r) (drop j (rows-of t)) → Cleared-between t g i j
+    → All (λ r. ends-at r < x) (take i (rows-of t)) → All (λ r. x ≤ ends-at r) (drop i (rows-of t)) → All (λ r. ends-at r < y) (take j (rows-of t)) → All (λ r. y ≤ ends-at r) (drop j (rows-of t)) → Cleared-between t g i j
 cleared-between-at t g i j x y p q li lj a b c d = record {
   i-inside = li;
   j-inside = lj;
@@ -109,9 +109,9 @@ cleared-between-at t g i j x y p q li lj a b c d = record {
 
 pub clear-turn : (t : Table) (g i j : ℕ) → Cleared-between t g i j → i ≤ j
 clear-turn t g i j w = ⊎-elim
-  (λ (lt : j < i). absurd (omega (arith, below-place (λ r. ends-at r < spot g 0) (rows-of t) i j blank (w .i-inside) lt (w .before), from-place (λ r. spot (g + 1) 0 ≤ ends-at r) (rows-of t) j j blank (omega (arith, w .i-inside)) (omega arith) (w .behind))))
-  (λ ge. ge)
-  (cases-lt j i)
+    (λ (lt : j < i). absurd (omega (arith, below-place (λ r. ends-at r < spot g 0) (rows-of t) i j blank (w .i-inside) lt (w .before), from-place (λ r. spot (g + 1) 0 ≤ ends-at r) (rows-of t) j j blank (omega (arith, w .i-inside)) (omega arith) (w .behind))))
+    (λ ge. ge)
+    (cases-lt j i)
 
 pub clear-changes : (t : Table) (g i j : ℕ) → Cleared-between t g i j → Changed (rows-of t) g [] (take i (rows-of t) ++ ([] ++ drop j (rows-of t)))
 clear-changes t g i j w = cleared (rows-of t) g i j (in-order t) (clear-turn t g i j w) (w .before) (w .from) (w .to) (w .behind)

@@ -26,8 +26,8 @@ use Rattle.rows.proofs.Middles.{same-test, all-both, below-place, from-place, 
 
 -- a row in the place of the rows from i to j, which covers their spots and those of low..high
 module _ (rs : List Row) (g lo hi i j : ℕ) (f : Rising 0 rs) (small : g < 11) (law : Lawful lo hi) (up : i ≤ j) (row : Row) (fair : Fair row)
-  (before : All (λ r. ends-at r + 2 ≤ begins-at row) (take i rs)) (behind : All (λ r. ends-at row + 2 ≤ begins-at r) (drop j rs))
-  (means : (p : ℕ) → within (begins-at row) (ends-at row) p ≡ (covers (drop i (take j rs)) p || within (spot g lo) (spot g hi) p)) where
+    (before : All (λ r. ends-at r + 2 ≤ begins-at row) (take i rs)) (behind : All (λ r. ends-at row + 2 ≤ begins-at r) (drop j rs))
+    (means : (p : ℕ) → within (begins-at row) (ends-at row) p ≡ (covers (drop i (take j rs)) p || within (spot g lo) (spot g hi) p)) where
   abbrev after : List Row
   after = take i rs ++ (row ∷ [] ++ drop j rs)
 
@@ -55,22 +55,22 @@ module _ (rs : List Row) (g lo hi i j : ℕ) (f : Rising 0 rs) (small : g < 11) 
 
   pub joined : Changed rs g (with-range lo hi (ranges g rs)) after
   joined = changed rs after g (with-range lo hi (ranges g rs)) f after-rises (adding-keeps-order 0 lo hi (ranges g rs) (omega arith) law (ranges-canonical g rs f))
-    (λ id h.
+      (λ id h.
       let same : eqb g g ≡ true = eq-eqb g g refl in
       after-covers (spot g id) ∙ ap (λ b. covers rs (spot g id) || b) (alone g id h ∙ ap (λ b. b && within lo hi id) same)
       ∙ ap (λ b. b || within lo hi id) (sym (has-by-spot 0 g id rs f h)) ∙ sym (adding-members 0 lo hi id (ranges g rs) (law .1) (ranges-canonical g rs f)))
-    (λ t id ne h.
+      (λ t id ne h.
       let other : eqb g t ≡ false = ne-eqb g t (λ e. ne (sym e)) in
       after-covers (spot t id) ∙ ap (λ b. covers rs (spot t id) || b) (alone t id h ∙ ap (λ b. b && within lo hi id) other) ∙ or-comm (covers rs (spot t id)) false)
 
 -- what the two searches of a put find
 module _ (rs : List Row) (g lo hi i j : ℕ) (d : Row) (f : Rising 0 rs) (small : g < 11) (law : Lawful lo hi) (li : i ≤ length rs) (lj : j ≤ length rs) (up : i ≤ j)
-  (before : All (λ r. ends-at r < spot g lo - 1) (take i rs)) (touch : All (λ r. spot g lo - 1 ≤ ends-at r) (drop i rs))
-  (touched : All (λ r. begins-at r < spot g hi + 2) (take j rs)) (behind : All (λ r. spot g hi + 2 ≤ begins-at r) (drop j rs)) where
+    (before : All (λ r. ends-at r < spot g lo - 1) (take i rs)) (touch : All (λ r. spot g lo - 1 ≤ ends-at r) (drop i rs))
+    (touched : All (λ r. begins-at r < spot g hi + 2) (take j rs)) (behind : All (λ r. spot g hi + 2 ≤ begins-at r) (drop j rs)) where
   pub lone : j ≤ i → Changed rs g (with-range lo hi (ranges g rs)) (take i rs ++ ((record { label = g; low = lo; high = hi }) ∷ [] ++ drop j rs))
   lone le = joined rs g lo hi i j f small law up (record { label = g; low = lo; high = hi }) (small, law)
-    (all-weaker (λ r. ends-at r < spot g lo - 1) (λ r. ends-at r + 2 ≤ spot g lo) (λ r b. omega arith) (take i rs) before) behind
-    (λ p. ap (λ l. covers l p || within (spot g lo) (spot g hi) p) (sym none))
+      (all-weaker (λ r. ends-at r < spot g lo - 1) (λ r. ends-at r + 2 ≤ spot g lo) (λ r b. omega arith) (take i rs) before) behind
+      (λ p. ap (λ l. covers l p || within (spot g lo) (spot g hi) p) (sym none))
     where
       none : drop i (take j rs) ≡ []
       none = drop-all i (take j rs) (omega (arith, length-take-le j rs lj))
@@ -112,24 +112,24 @@ module _ (rs : List Row) (g lo hi i j : ℕ) (d : Row) (f : Rising 0 rs) (small 
       where
         low : (a : ℕ) → first .label ≡ g → (spot g (min lo a) ≤ spot g lo) × (spot g (min lo a) ≤ spot (first .label) a) × ((spot g (min lo a) ≡ spot g lo) ⊎ (spot g (min lo a) ≡ spot (first .label) a))
         low a is = ⊎-elim
-          (λ (h : lo < a). let m : min lo a ≡ lo = omega arith in (omega (arith, m), omega (arith, m), inl (ap (spot g) m)))
-          (λ h. let m : min lo a ≡ a = omega arith in (omega (arith, m), omega (arith, m), inr (ap (spot g) m ∙ ap (λ z. spot z a) (sym is))))
-          (cases-lt lo a)
+            (λ (h : lo < a). let m : min lo a ≡ lo = omega arith in (omega (arith, m), omega (arith, m), inl (ap (spot g) m)))
+            (λ h. let m : min lo a ≡ a = omega arith in (omega (arith, m), omega (arith, m), inr (ap (spot g) m ∙ ap (λ z. spot z a) (sym is))))
+            (cases-lt lo a)
 
     high-end : (spot g hi ≤ ends-at whole) × (ends-at last ≤ ends-at whole) × ((ends-at whole ≡ spot g hi) ⊎ (ends-at whole ≡ ends-at last))
     high-end = high (last .high) (one-label last last-fair last-touches)
       where
         high : (b : ℕ) → last .label ≡ g → (spot g hi ≤ spot g (max hi b)) × (spot (last .label) b ≤ spot g (max hi b)) × ((spot g (max hi b) ≡ spot g hi) ⊎ (spot g (max hi b) ≡ spot (last .label) b))
         high b is = ⊎-elim
-          (λ (h : hi < b). let m : max hi b ≡ b = omega arith in (omega (arith, m), omega (arith, m), inr (ap (spot g) m ∙ ap (λ z. spot z b) (sym is))))
-          (λ h. let m : max hi b ≡ hi = omega arith in (omega (arith, m), omega (arith, m), inl (ap (spot g) m)))
-          (cases-lt hi b)
+            (λ (h : hi < b). let m : max hi b ≡ b = omega arith in (omega (arith, m), omega (arith, m), inr (ap (spot g) m ∙ ap (λ z. spot z b) (sym is))))
+            (λ h. let m : max hi b ≡ hi = omega arith in (omega (arith, m), omega (arith, m), inl (ap (spot g) m)))
+            (cases-lt hi b)
 
     -- it covers what the rows did, and the range
     whole-means : (p : ℕ) → within (begins-at whole) (ends-at whole) p ≡ (covers (drop i (take j rs)) p || within (spot g lo) (spot g hi) p)
     whole-means p = same-test _ _
-      (λ w. go (bounds (begins-at whole) (ends-at whole) p w) (cases-lt p (spot g lo)) (cases-lt (spot g hi) p))
-      (λ w. ⊎-elim
+        (λ w. go (bounds (begins-at whole) (ends-at whole) p w) (cases-lt p (spot g lo)) (cases-lt (spot g hi) p))
+        (λ w. ⊎-elim
         (λ m. let b = middle-between rs i j d f lt lj p m in inside (begins-at whole) (ends-at whole) p (omega (arith, b, low-end .1)) (omega (arith, b, high-end .1)))
         (λ m. let b = bounds (spot g lo) (spot g hi) p m in inside (begins-at whole) (ends-at whole) p (omega (arith, b, low-end .0)) (omega (arith, b, high-end .0)))
         (or-cases (covers (drop i (take j rs)) p) (within (spot g lo) (spot g hi) p) w))
@@ -141,9 +141,9 @@ module _ (rs : List Row) (g lo hi i j : ℕ) (d : Row) (f : Rising 0 rs) (small 
 
     pub together : Changed rs g (with-range lo hi (ranges g rs)) (take i rs ++ (whole ∷ [] ++ drop j rs))
     together = joined rs g lo hi i j f small law up whole whole-fair
-      (all-both (λ r. ends-at r < spot g lo - 1) (λ r. ends-at r + 2 ≤ begins-at first) (λ r. ends-at r + 2 ≤ begins-at whole) (λ r a b. ⊎-elim (λ e. omega arith) (λ e. omega arith) (low-end .2)) (take i rs) before (before-row 0 rs i d f (omega arith)))
-      (all-both (λ r. spot g hi + 2 ≤ begins-at r) (λ r. ends-at last + 2 ≤ begins-at r) (λ r. ends-at whole + 2 ≤ begins-at r) (λ r a b. ⊎-elim (λ e. omega arith) (λ e. omega arith) (high-end .2)) (drop j rs) behind behind-last)
-      whole-means
+        (all-both (λ r. ends-at r < spot g lo - 1) (λ r. ends-at r + 2 ≤ begins-at first) (λ r. ends-at r + 2 ≤ begins-at whole) (λ r a b. ⊎-elim (λ e. omega arith) (λ e. omega arith) (low-end .2)) (take i rs) before (before-row 0 rs i d f (omega arith)))
+        (all-both (λ r. spot g hi + 2 ≤ begins-at r) (λ r. ends-at last + 2 ≤ begins-at r) (λ r. ends-at whole + 2 ≤ begins-at r) (λ r a b. ⊎-elim (λ e. omega arith) (λ e. omega arith) (high-end .2)) (drop j rs) behind behind-last)
+        whole-means
       where
         behind-last : All (λ r. ends-at last + 2 ≤ begins-at r) (drop j rs)
         behind-last = let js : suc (j - 1) ≡ j = omega arith in subst (λ n. All (λ r. ends-at last + 2 ≤ begins-at r) (drop n rs)) js (behind-row 0 rs (j - 1) d f (omega arith))

@@ -35,9 +35,9 @@ module _ (ls os : List ℕ) (to : Back ls os) where
   -- a change under a set's label is a change of the set
   pub one-set : (rs qs : List Row) (s : SetName) (l : ℕ) (spans : List Span) → l ≡ label s → Changed rs l spans qs → labelled ls qs ≡ with-set (labelled ls rs) s spans
   one-set rs qs s l spans e h = fun-ext (λ t. ⊎-elim
-    (λ (same : number t ≡ number s). ap (λ n. ranges (getD ls n 0) qs) same ∙ ap (λ n. ranges n qs) (sym e) ∙ h .here ∙ sym (cond-true _ _ _ (eq-eqb (number t) (number s) same)))
-    (λ ne. h .others (label t) (λ i. labels-differ t s ne (i ∙ e)) ∙ sym (cond-false _ _ _ (ne-eqb (number t) (number s) ne)))
-    (cases-eq (number t) (number s)))
+      (λ (same : number t ≡ number s). ap (λ n. ranges (getD ls n 0) qs) same ∙ ap (λ n. ranges n qs) (sym e) ∙ h .here ∙ sym (cond-true _ _ _ (eq-eqb (number t) (number s) same)))
+      (λ ne. h .others (label t) (λ i. labels-differ t s ne (i ∙ e)) ∙ sym (cond-false _ _ _ (ne-eqb (number t) (number s) ne)))
+      (cases-eq (number t) (number s)))
 
   -- each row is a range of one set
   one-row : Back os ls → (r : Row) (rs : List Row) → r .label < 11 → total (labelled ls (r ∷ rs)) ≡ total (labelled ls rs) + 1
@@ -46,12 +46,12 @@ module _ (ls os : List ℕ) (to : Back ls os) where
       let is : label (o .0) ≡ r .label = ap (λ n. getD ls n 0) (o .1) ∙ from (r .label) h .1 in
       let spans = (r .low, r .high) ∷ labelled ls rs (o .0) in
       let more : labelled ls (r ∷ rs) ≡ with-set (labelled ls rs) (o .0) spans = fun-ext (λ t. ⊎-elim
-        (λ (same : number t ≡ number (o .0)).
-          let lt : r .label ≡ label t = sym is ∙ ap (λ n. getD ls n 0) (sym same) in
-          cond-true _ _ _ (eq-eqb (r .label) (label t) lt) ∙ ap (λ n. (r .low, r .high) ∷ ranges (getD ls n 0) rs) same ∙ sym (cond-true _ _ _ (eq-eqb (number t) (number (o .0)) same)))
-        (λ ne.
-          cond-false _ _ _ (ne-eqb (r .label) (label t) (λ i. labels-differ t (o .0) ne (sym i ∙ sym is))) ∙ sym (cond-false _ _ _ (ne-eqb (number t) (number (o .0)) ne)))
-        (cases-eq (number t) (number (o .0)))) in
+      (λ (same : number t ≡ number (o .0)).
+      let lt : r .label ≡ label t = sym is ∙ ap (λ n. getD ls n 0) (sym same) in
+      cond-true _ _ _ (eq-eqb (r .label) (label t) lt) ∙ ap (λ n. (r .low, r .high) ∷ ranges (getD ls n 0) rs) same ∙ sym (cond-true _ _ _ (eq-eqb (number t) (number (o .0)) same)))
+      (λ ne.
+      cond-false _ _ _ (ne-eqb (r .label) (label t) (λ i. labels-differ t (o .0) ne (sym i ∙ sym is))) ∙ sym (cond-false _ _ _ (ne-eqb (number t) (number (o .0)) ne)))
+      (cases-eq (number t) (number (o .0)))) in
       ap total more ∙ omega (arith, total-follows (labelled ls rs) (o .0) spans)
 
   pub all-counted : Back os ls → (n : ℕ) (rs : List Row) → Rising n rs → total (labelled ls rs) ≡ length rs
@@ -61,8 +61,8 @@ module _ (ls os : List ℕ) (to : Back ls os) where
 
   -- a change under a set's label is granted, or refused, as a change of the set
   pub granted : {X : Type 0} → Back os ls → (limit : ℕ) (rs qs : List Row) (s : SetName) (l : ℕ) (change : List Span → List Span) (r : Result X StoreRefusal) → l ≡ label s → length qs ≤ limit
-    → Changed-if-it-fits limit rs l (change (ranges l rs)) qs r
-    → Granted-if-it-fits limit (labelled ls rs) (with-set (labelled ls rs) s (change (labelled ls rs s))) (labelled ls qs) r
+      → Changed-if-it-fits limit rs l (change (ranges l rs)) qs r
+      → Granted-if-it-fits limit (labelled ls rs) (with-set (labelled ls rs) s (change (labelled ls rs s))) (labelled ls qs) r
   granted from limit rs qs s l change (Ok x) e fits h =
       let is = one-set rs qs s l (change (labelled ls rs s)) e (subst (λ n. Changed rs l (change (ranges n rs)) qs) e h) in
       (omega (arith, ap total is, all-counted from 0 qs (h .in-order)), is)
@@ -73,23 +73,23 @@ module _ (ls os : List ℕ) (to : Back ls os) where
 
   -- the rows of one set taken out, and its label changed with another's
   pub sets-moved : length ls ≡ 11 → (rs qs : List Row) (a b : SetName) (l : ℕ) (ls′ : List ℕ) → (number a ≡ number b → ⊥) → l ≡ label b → Changed rs l [] qs → ls′ ≡ set (set ls (number a) (label b)) (number b) (label a)
-    → labelled ls′ qs ≡ moved (labelled ls rs) a b
+      → labelled ls′ qs ≡ moved (labelled ls rs) a b
   sets-moved len rs qs a b l ls′ ab e h w = ap (λ x. labelled x qs) w ∙ fun-ext by-set ∙ sym (cond-false _ _ _ (ne-eqb (number a) (number b) ab))
     where
       by-set : (t : SetName) → labelled (set (set ls (number a) (label b)) (number b) (label a)) qs t ≡ with-set (with-set (labelled ls rs) b (labelled ls rs a)) a [] t
       by-set t = ⊎-elim
-        (λ (same : number t ≡ number a).
+          (λ (same : number t ≡ number a).
           ap (λ n. ranges n qs) (first-written ls (number a) (number b) (number t) (label b) (label a) (omega (arith, number-small a)) (λ i. ab (sym same ∙ i)) same ∙ sym e) ∙ h .here
           ∙ sym (cond-true _ _ _ (eq-eqb (number t) (number a) same)))
-        (λ na. ⊎-elim
+          (λ na. ⊎-elim
           (λ (same : number t ≡ number b).
-            ap (λ n. ranges n qs) (last-written ls (number a) (number b) (number t) (label b) (label a) (omega (arith, number-small b)) same) ∙ h .others (label a) (λ i. labels-differ a b ab (i ∙ e))
-            ∙ sym (cond-false _ _ _ (ne-eqb (number t) (number a) na) ∙ cond-true _ _ _ (eq-eqb (number t) (number b) same)))
+          ap (λ n. ranges n qs) (last-written ls (number a) (number b) (number t) (label b) (label a) (omega (arith, number-small b)) same) ∙ h .others (label a) (λ i. labels-differ a b ab (i ∙ e))
+          ∙ sym (cond-false _ _ _ (ne-eqb (number t) (number a) na) ∙ cond-true _ _ _ (eq-eqb (number t) (number b) same)))
           (λ nb.
-            ap (λ n. ranges n qs) (not-written ls (number a) (number b) (number t) (label b) (label a) nb na) ∙ h .others (label t) (λ i. labels-differ t b nb (i ∙ e))
-            ∙ sym (cond-false _ _ _ (ne-eqb (number t) (number a) na) ∙ cond-false _ _ _ (ne-eqb (number t) (number b) nb)))
+          ap (λ n. ranges n qs) (not-written ls (number a) (number b) (number t) (label b) (label a) nb na) ∙ h .others (label t) (λ i. labels-differ t b nb (i ∙ e))
+          ∙ sym (cond-false _ _ _ (ne-eqb (number t) (number a) na) ∙ cond-false _ _ _ (ne-eqb (number t) (number b) nb)))
           (cases-eq (number t) (number b)))
-        (cases-eq (number t) (number a))
+          (cases-eq (number t) (number a))
 
 -- what was granted, by members
 module _ {X : Type 0} (limit : ℕ) (before after : Model) (s : SetName) (lo hi : ℕ) (law : lo ≤ hi) where

@@ -44,9 +44,9 @@ from-place P rs i k d l h a =
 -- rows that end before a spot, and the rest that begins after it, do not overlap
 pub ordered-places : (rs : List Row) (i j at to : ℕ) (d : Row) → Rising 0 rs → i ≤ length rs → j ≤ length rs → at ≤ to → All (λ r. ends-at r < at) (take i rs) → All (λ r. to ≤ begins-at r) (drop j rs) → i ≤ j
 ordered-places rs i j at to d f a b h before behind = ⊎-elim
-  (λ (lt : j < i). absurd (omega (arith, below-place (λ r. ends-at r < at) rs i j d a lt before, from-place (λ r. to ≤ begins-at r) rs j j d (omega arith) (omega arith) behind, fair-place 0 rs j d f (omega arith))))
-  (λ ge. ge)
-  (cases-lt j i)
+    (λ (lt : j < i). absurd (omega (arith, below-place (λ r. ends-at r < at) rs i j d a lt before, from-place (λ r. to ≤ begins-at r) rs j j d (omega arith) (omega arith) behind, fair-place 0 rs j d f (omega arith))))
+    (λ ge. ge)
+    (cases-lt j i)
 
 -- the rows from i to j, where there is one
 module _ (rs : List Row) (i j : ℕ) (d : Row) (f : Rising 0 rs) (h : i < j) (l : j ≤ length rs) where

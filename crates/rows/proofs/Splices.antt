@@ -36,7 +36,7 @@ module _ {X : Type 0} (xs : List X) where
 
   -- the part written over
   written : (ys zs old : List X) (from to used len : ℕ) → from ≤ to → to ≤ used → used ≤ length xs → length ys ≡ len → from + length zs + (used - to) ≤ len → take from ys ≡ take from xs → take (used - to) (drop (from + length zs) ys) ≡ drop to (take used xs)
-    → take (from + length zs + (used - to)) (take len (putMid from (from + length zs - from) ys zs ++ drop (length (putMid from (from + length zs - from) ys zs)) old)) ≡ take from (take used xs) ++ (zs ++ drop to (take used xs))
+      → take (from + length zs + (used - to)) (take len (putMid from (from + length zs - from) ys zs ++ drop (length (putMid from (from + length zs - from) ys zs)) old)) ≡ take from (take used xs) ++ (zs ++ drop to (take used xs))
   written ys zs old from to used len p q l e room front back =
       let m = used - to in
       let k = from + length zs - from in
@@ -52,7 +52,7 @@ module _ {X : Type 0} (xs : List X) where
 
   -- the same, with the part as a copy left it
   pub written-over : (ys now-ys new zs old : List X) (from to used len : ℕ) → now-ys ≡ ys → zs ≡ new → from ≤ to → to ≤ used → used ≤ length xs → length ys ≡ len → from + length new + (used - to) ≤ len → take from ys ≡ take from xs → take (used - to) (drop (from + length new) ys) ≡ drop to (take used xs)
-    → take (from + length new + (used - to)) (take len (putMid from (from + length new - from) now-ys zs ++ drop (length (putMid from (from + length new - from) now-ys zs)) old)) ≡ take from (take used xs) ++ (new ++ drop to (take used xs))
+      → take (from + length new + (used - to)) (take len (putMid from (from + length new - from) now-ys zs ++ drop (length (putMid from (from + length new - from) now-ys zs)) old)) ≡ take from (take used xs) ++ (new ++ drop to (take used xs))
   written-over ys now-ys new zs old from to used len a b p q l e room front back =
       ap (λ y. take (from + length new + (used - to)) (take len (putMid from (from + length new - from) y zs ++ drop (length (putMid from (from + length new - from) y zs)) old))) a
       ∙ ap (λ z. take (from + length new + (used - to)) (take len (putMid from (from + length new - from) ys z ++ drop (length (putMid from (from + length new - from) ys z)) old))) b

@@ -7,14 +7,12 @@ use Prim.Native.Nat.{ℕ, _+_, _-_, _*_, _/_, _^_, _≤_, _<_}
 use native.Mathlib.Omega.{arith}
 use lib.Dec.{leb, ltb, eqb}
 use lib.ListN.{getD, take, drop, take-append-drop}
-use Rattle.std.specs.Options.{Cases}
 use Rattle.std.specs.declared.option.Option.{Option}
 use Rattle.std.specs.declared.option.Option.the-variants.{Some, None}
 use Rattle.std.specs.shelf.Lists.{All}
 use Rattle.std.proofs.shelf.Tests.{cond-both, cond-true, cond-false, eq-eqb, ne-eqb, eqb-true, eqb-false, lt-ltb, le-ltb, le-leb, lt-leb, cases-lt}
 use Rattle.std.proofs.shelf.Ways.{tells}
-use Rattle.store.specs.Ranges.{Span, place, within, has, From, Canonical, next-range}
-use Rattle.store.specs.Laws.{Lowest-not-below}
+use Rattle.store.specs.Ranges.{Span, place, within, has, From, Canonical, next-range, Lowest-not-below, Lowest-or-none}
 use Rattle.store.proofs.Nexts.{next-is-lowest}
 use Rattle.rows.specs.declared.row.Row.{Row}
 use Rattle.rows.specs.Rows.{spot, begins-at, ends-at, Fair, Rising, ranges}
@@ -28,7 +26,7 @@ ranges-from n m s [] h f = tt
 ranges-from n m s (r ∷ rs) h f =
     cond-both (eqb (r .label) s) _ _ (From m)
     (λ e. let is : r .label ≡ s = eqb-true _ _ e in
-      (omega arith, f .1 .1, ranges-from (ends-at r + 2) (place (r .high) + 2) s rs (omega arith) (f .2)))
+    (omega arith, f .1 .1, ranges-from (ends-at r + 2) (place (r .high) + 2) s rs (omega arith) (f .2)))
     (λ e. ranges-from (ends-at r + 2) m s rs (omega arith) (f .2))
 
 pub ranges-canonical : (s : ℕ) (rs : List Row) → Rising 0 rs → Canonical (ranges s rs)
@@ -45,8 +43,8 @@ passed s n [] ys f a = refl
 passed s n (x ∷ xs) ys f a =
     cond-both (eqb (x .label) s) _ _ (λ l. next-range l n ≡ next-range (ranges s ys) n)
     (λ e. let is : x .label ≡ s = eqb-true _ _ e in
-      let lt : x .high < n = omega (arith, a .0) in
-      cond-true _ _ _ (lt-ltb _ _ lt) ∙ passed s n xs ys (f .1) (a .1))
+    let lt : x .high < n = omega (arith, a .0) in
+    cond-true _ _ _ (lt-ltb _ _ lt) ∙ passed s n xs ys (f .1) (a .1))
     (λ e. passed s n xs ys (f .1) (a .1))
 
 -- the first row that does not end before a number's spot
@@ -78,12 +76,15 @@ module _ (t : Table) (s n i at : ℕ) (is-at : at ≡ spot s n) (found : All (λ
 
 -- an ID is in a set exactly if the next range from it on begins at it or before
 module _ (rs : List Span) (id : ℕ) (f : Canonical rs) where
+  pub by-members : (o : Option Span) → o ≡ next-range rs id → Lowest-or-none rs id o
+  by-members o e = subst (Lowest-or-none rs id) (sym e) (next-is-lowest 0 rs id f)
+
   pub held-in : (low high : ℕ) → Some (low, high) ≡ next-range rs id → leb low id ≡ has rs id
-  held-in low high e = go (subst (λ o. Cases o ((k : ℕ) → id ≤ k → has rs k ≡ false) (Lowest-not-below rs id)) (sym e) (next-is-lowest 0 rs id f)) (cases-lt id low)
+  held-in low high e = go (by-members (Some (low, high)) e) (cases-lt id low)
     where
       go : Lowest-not-below rs id (low, high) → (id < low) ⊎ (low ≤ id) → leb low id ≡ has rs id
       go r (inl lt) = lt-leb _ _ lt ∙ sym (r .none-lower id (omega arith) lt)
       go r (inr ge) = let w : within low high id ≡ true = grind (arith, tells, r .reaches) in le-leb _ _ ge ∙ sym (r .whole id w)
 
   pub held-none : None ≡ next-range rs id → false ≡ has rs id
-  held-none e = sym (subst (λ o. Cases o ((k : ℕ) → id ≤ k → has rs k ≡ false) (Lowest-not-below rs id)) (sym e) (next-is-lowest 0 rs id f) id (omega arith))
+  held-none e = sym (by-members None e id (omega arith))

@@ -42,12 +42,12 @@ module _ (ls os : List ℕ) (a b : ℕ) (x : length ls ≡ 11) (y : length os �
   swapped-back s h =
       ⊎-elim
       (λ (e : s ≡ b). found s la (last-written ls a b s lb la (omega arith) e) (to a p .0)
-        (⊎-elim (λ (i : la ≡ lb). last-written os la lb la b a (omega (arith, to b q .0)) i ∙ one-owner ls os a b to p q i ∙ sym e) (λ n. first-written os la lb la b a (omega (arith, to a p .0)) n refl ∙ sym e) (cases-eq la lb)))
+      (⊎-elim (λ (i : la ≡ lb). last-written os la lb la b a (omega (arith, to b q .0)) i ∙ one-owner ls os a b to p q i ∙ sym e) (λ n. first-written os la lb la b a (omega (arith, to a p .0)) n refl ∙ sym e) (cases-eq la lb)))
       (λ n. ⊎-elim
-        (λ (e : s ≡ a). found s lb (first-written ls a b s lb la (omega arith) n e) (to b q .0) (last-written os la lb lb b a (omega (arith, to b q .0)) refl ∙ sym e))
-        (λ m. found s (getD ls s 0) (not-written ls a b s lb la n m) (to s h .0)
-          (not-written os la lb (getD ls s 0) b a (λ i. n (one-owner ls os s b to h q i)) (λ i. m (one-owner ls os s a to h p i)) ∙ to s h .1))
-        (cases-eq s a))
+      (λ (e : s ≡ a). found s lb (first-written ls a b s lb la (omega arith) n e) (to b q .0) (last-written os la lb lb b a (omega (arith, to b q .0)) refl ∙ sym e))
+      (λ m. found s (getD ls s 0) (not-written ls a b s lb la n m) (to s h .0)
+      (not-written os la lb (getD ls s 0) b a (λ i. n (one-owner ls os s b to h q i)) (λ i. m (one-owner ls os s a to h p i)) ∙ to s h .1))
+      (cases-eq s a))
       (cases-eq s b)
 
 pub swapped-owner : (ls os : List ℕ) (a b : ℕ) → length ls ≡ 11 → length os ≡ 11 → Back ls os → Back os ls → a < 11 → b < 11 → Back (set (set os (getD ls a 0) b) (getD ls b 0) a) (set (set ls a (getD ls b 0)) b (getD ls a 0))

@@ -2,6 +2,7 @@
 use mathlib.Core.List.{List}
 use Prim.Native.Nat.{ℕ}
 use lib.ListN.{getD}
+use Rattle.std.specs.Of.Vec.{vec-len}
 use Rattle.store.specs.Sets.{Model, number}
 use Rattle.rows.specs.declared.row.Row.{Row}
 use Rattle.rows.specs.declared.rows_store.RowStore.{RowStore}
@@ -14,3 +15,7 @@ labelled labels rs set = ranges (getD labels (number set) 0) rs
 
 abbrev pub meaning : RowStore → Model
 meaning store = labelled (store .labels .label) (rows-of (store .table))
+
+-- as many ranges as rows were handed over
+abbrev pub limit-of : RowStore → ℕ
+limit-of store = vec-len (store .table .rows)

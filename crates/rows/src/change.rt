@@ -37,11 +37,19 @@ impl Table {
         let low = range.low();
         let high = range.high();
         if from >= to {
-            return Row { label: label.value, low, high };
+            return Row {
+                label: label.value,
+                low,
+                high,
+            };
         }
         let first = self.rows[from];
         let last = self.rows[to - 1];
-        Row { label: label.value, low: low.min(first.low), high: high.max(last.high) }
+        Row {
+            label: label.value,
+            low: low.min(first.low),
+            high: high.max(last.high),
+        }
     }
 
     /// Takes the range's IDs from under the label; refused as full where that takes more rows than there are.
@@ -86,9 +94,21 @@ fn left_over(label: u8, range: Range, first: Row, last: Row) -> Parts
 {
     let low = range.low();
     let high = range.high();
-    let lower = Row { label, low: first.low, high: low - 1 };
-    let upper = Row { label, low: high.saturating_add(1), high: last.high };
+    let lower = Row {
+        label,
+        low: first.low,
+        high: low - 1,
+    };
+    let upper = Row {
+        label,
+        low: high.saturating_add(1),
+        high: last.high,
+    };
     let start = if first.low < low { 0 } else { 1 };
     let end = if high < last.high { 2 } else { 1 };
-    Parts { rows: [lower, upper], start, end }
+    Parts {
+        rows: [lower, upper],
+        start,
+        end,
+    }
 }

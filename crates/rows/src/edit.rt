@@ -43,7 +43,12 @@ impl Table {
     }
 
     // The same, refused where there would be more rows than there are.
-    pub fn replace_if_it_fits(&mut self, from: usize, to: usize, new: &[Row]) -> Result<(), StoreRefusal>
+    pub fn replace_if_it_fits(
+        &mut self,
+        from: usize,
+        to: usize,
+        new: &[Row],
+    ) -> Result<(), StoreRefusal>
         requires few { ⌜ length (now new) ≤ 2 ⌝ }
         requires up { ⌜ from ≤ to ⌝ }
         requires to { ⌜ to ≤ now self .used ⌝ }

@@ -22,14 +22,19 @@ impl Labels {
     /// Each set has its own number for its label.
     pub fn new() -> Labels {
         let own = [0, 1, 2, 3, 4, 5, 6, 7, 8, 9, 10];
-        Labels { label: own, owner: own }
+        Labels {
+            label: own,
+            owner: own,
+        }
     }
 
     /// The label of a set.
     pub fn of(&self, set: SetName) -> Label
         ensures { λ r. ⌜ r .value ≡ getD (now (self .entry) .label) (number set) 0 ⌝ }
     {
-        Label { value: self.label[set.number() as usize] }
+        Label {
+            value: self.label[set.number() as usize],
+        }
     }
 
     /// Two sets change labels.

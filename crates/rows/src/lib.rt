@@ -10,5 +10,5 @@ mod table;
 pub use row::CheckedRows;
 pub use row::RefusedRows;
 pub use row::Row;
-pub use rows_store::RowStore;
 pub use rows_store::RangeStoreInRows;
+pub use rows_store::RowStore;

@@ -3,7 +3,7 @@ ghost use mathlib.Core.Path.{_≡_};
 ghost use Prim.Native.Nat.{ℕ};
 ghost use Rattle.std.specs.Of.Vec.{vec-len};
 ghost use Rattle.store.specs.Sets.{nothing};
-ghost use Rattle.rows.specs.Meaning.{meaning};
+ghost use Rattle.rows.specs.Meaning.{meaning, limit-of};
 use crate::labels::Labels;
 use crate::row::CheckedRows;
 use crate::row::Row;
@@ -24,15 +24,20 @@ impl RowStore {
     /// A store in these rows with every set empty, whatever they hold. Its limit is their number.
     pub fn new(checked: CheckedRows) -> RowStore
         ensures empty { λ r. ⌜ meaning r ≡ nothing ⌝ }
+        ensures limit { λ r. ⌜ limit-of r ≡ vec-len (checked .rows) ⌝ }
         ensures rows { λ r. ⌜ r .table .rows ≡ checked .rows ⌝ }
     {
         let CheckedRows { rows } = checked;
-        RowStore { table: Table { rows, used: 0 }, labels: Labels::new() }
+        RowStore {
+            table: Table { rows, used: 0 },
+            labels: Labels::new(),
+        }
     }
 
     /// The rows back, as the store leaves them.
     pub fn into_rows(self) -> Vec<Row>
-        ensures { λ r. ⌜ r ≡ self .table .rows ⌝ }
+        ensures rows { λ r. ⌜ r ≡ self .table .rows ⌝ }
+        ensures number { λ r. ⌜ vec-len r ≡ limit-of self ⌝ }
     {
         let RowStore { table, labels: _ } = self;
         let Table { rows, used: _ } = table;
@@ -43,7 +48,7 @@ impl RowStore {
 pub impl RangeStore for RowStore as RangeStoreInRows {
     ghost model = { meaning };
 
-    ghost room = { λ store. vec-len (store .table .rows) };
+    ghost room = { limit-of };
 
     fn put(&mut self, set: SetName, range: Range) -> Result<(), StoreRefusal> {
         self.table.put(self.labels.of(set), range)

@@ -24,11 +24,11 @@ adding-keeps-order n lo hi (r ∷ rs) h s f =
     cond-both (apart (r .1) lo) _ _ (From n)
     (λ e. (f .0, f .1, adding-keeps-order (place (r .1) + 2) lo hi rs (omega (arith, ltb-true _ _ e)) s (f .2)))
     (λ e. cond-both (apart hi (r .0)) _ _ (From n)
-      (λ d. (h, s, (omega (arith, ltb-true _ _ d), f .1, f .2)))
-      (λ d.
-        let p : place lo ≤ place (r .1) + 1 = ltb-false _ _ e in
-        let q : place (r .0) ≤ place hi + 1 = ltb-false _ _ d in
-        adding-keeps-order n (min lo (r .0)) (max hi (r .1)) rs (omega arith) (union-lawful lo hi (r .0) (r .1) p q s (f .1)) (weaker n _ rs (omega arith) (f .2))))
+    (λ d. (h, s, (omega (arith, ltb-true _ _ d), f .1, f .2)))
+    (λ d.
+    let p : place lo ≤ place (r .1) + 1 = ltb-false _ _ e in
+    let q : place (r .0) ≤ place hi + 1 = ltb-false _ _ d in
+    adding-keeps-order n (min lo (r .0)) (max hi (r .1)) rs (omega arith) (union-lawful lo hi (r .0) (r .1) p q s (f .1)) (weaker n _ rs (omega arith) (f .2))))
 
 pub adding-members : (n lo hi id : ℕ) (rs : List Span) → lo ≤ hi → From n rs → has (with-range lo hi rs) id ≡ (has rs id || within lo hi id)
 adding-members n lo hi id [] h f = or-comm (within lo hi id) false
@@ -36,10 +36,10 @@ adding-members n lo hi id (r ∷ rs) h f =
     cond-both (apart (r .1) lo) _ _ (λ l. has l id ≡ ((within (r .0) (r .1) id || has rs id) || within lo hi id))
     (λ e. ap (λ b. within (r .0) (r .1) id || b) (adding-members (place (r .1) + 2) lo hi id rs h (f .2)) ∙ or-assoc (within (r .0) (r .1) id) (has rs id) (within lo hi id))
     (λ e. cond-both (apart hi (r .0)) _ _ (λ l. has l id ≡ ((within (r .0) (r .1) id || has rs id) || within lo hi id))
-      (λ d. or-comm (within lo hi id) (within (r .0) (r .1) id || has rs id))
-      (λ d.
-        let p : place lo ≤ place (r .1) + 1 = ltb-false _ _ e in
-        let q : place (r .0) ≤ place hi + 1 = ltb-false _ _ d in
-        adding-members (place (r .1) + 2) (min lo (r .0)) (max hi (r .1)) id rs (omega arith) (f .2)
-        ∙ ap (λ b. has rs id || b) (union lo hi (r .0) (r .1) id p q h (f .1 .1))
-        ∙ or-assoc (has rs id) (within (r .0) (r .1) id) (within lo hi id) ∙ ap (λ b. b || within lo hi id) (or-comm (has rs id) (within (r .0) (r .1) id))))
+    (λ d. or-comm (within lo hi id) (within (r .0) (r .1) id || has rs id))
+    (λ d.
+    let p : place lo ≤ place (r .1) + 1 = ltb-false _ _ e in
+    let q : place (r .0) ≤ place hi + 1 = ltb-false _ _ d in
+    adding-members (place (r .1) + 2) (min lo (r .0)) (max hi (r .1)) id rs (omega arith) (f .2)
+    ∙ ap (λ b. has rs id || b) (union lo hi (r .0) (r .1) id p q h (f .1 .1))
+    ∙ or-assoc (has rs id) (within (r .0) (r .1) id) (within lo hi id) ∙ ap (λ b. b || within lo hi id) (or-comm (has rs id) (within (r .0) (r .1) id))))

@@ -16,22 +16,22 @@ use Rattle.store.proofs.Members.{none-below}
 same-beginning : (n : ℕ) (r : Span) (rs : List Span) (id : ℕ) → From n (r ∷ rs) → (id ≡ r .0 → ⊥) → begins (has (r ∷ rs)) id ≡ begins (has rs) id
 unfolding begins goes-before
 same-beginning n r rs id f ne = ⊎-elim
-  (λ (lt : id < r .0).
+    (λ (lt : id < r .0).
     let a : within (r .0) (r .1) id ≡ false = grind (arith, tells) in
     let b : has rs id ≡ false = none-below (place (r .1) + 2) rs id (f .2) (omega arith) in
     rw (a, b) refl)
-  (λ ge. ⊎-elim
+    (λ ge. ⊎-elim
     (λ (in-r : id < r .1 + 1).
-      let a : within (r .0) (r .1) id ≡ true = grind (arith, tells) in
-      let c : within (r .0) (r .1) (id - 1) ≡ true = grind (arith, tells) in
-      let b : has rs id ≡ false = none-below (place (r .1) + 2) rs id (f .2) (omega arith) in
-      let e : eqb (id % 2 ^ 48) 0 ≡ false = ne-eqb _ _ (omega arith) in
-      rw (a, b, c, e) refl)
+    let a : within (r .0) (r .1) id ≡ true = grind (arith, tells) in
+    let c : within (r .0) (r .1) (id - 1) ≡ true = grind (arith, tells) in
+    let b : has rs id ≡ false = none-below (place (r .1) + 2) rs id (f .2) (omega arith) in
+    let e : eqb (id % 2 ^ 48) 0 ≡ false = ne-eqb _ _ (omega arith) in
+    rw (a, b, c, e) refl)
     (λ out.
-      let a : within (r .0) (r .1) id ≡ false = grind (arith, tells) in
-      rw a (past out (cases-eq id (r .1 + 1)) (cases-eq (id % 2 ^ 48) 0)))
+    let a : within (r .0) (r .1) id ≡ false = grind (arith, tells) in
+    rw a (past out (cases-eq id (r .1 + 1)) (cases-eq (id % 2 ^ 48) 0)))
     (cases-lt id (r .1 + 1)))
-  (cases-lt id (r .0))
+    (cases-lt id (r .0))
   where
     past : r .1 + 1 ≤ id → (id ≡ r .1 + 1) ⊎ (id ≡ r .1 + 1 → ⊥) → (id % 2 ^ 48 ≡ 0) ⊎ (id % 2 ^ 48 ≡ 0 → ⊥) → (has rs id && not (cond (eqb (id % 2 ^ 48) 0) false (within (r .0) (r .1) (id - 1) || has rs (id - 1)))) ≡ (has rs id && not (cond (eqb (id % 2 ^ 48) 0) false (has rs (id - 1))))
     past out (inl is) (inl z) = let e : eqb (id % 2 ^ 48) 0 ≡ true = eq-eqb _ _ z in rw e refl
@@ -42,13 +42,13 @@ same-beginning n r rs id f ne = ⊎-elim
 first-begins : (n : ℕ) (r : Span) (rs : List Span) → From n (r ∷ rs) → begins (has (r ∷ rs)) (r .0) ≡ true
 unfolding begins goes-before
 first-begins n r rs f = ⊎-elim
-  (λ (z : r .0 % 2 ^ 48 ≡ 0). let e : eqb (r .0 % 2 ^ 48) 0 ≡ true = eq-eqb _ _ z in rw (a, e) refl)
-  (λ z.
+    (λ (z : r .0 % 2 ^ 48 ≡ 0). let e : eqb (r .0 % 2 ^ 48) 0 ≡ true = eq-eqb _ _ z in rw (a, e) refl)
+    (λ z.
     let c : within (r .0) (r .1) (r .0 - 1) ≡ false = grind (arith, tells, f .1 .1) in
     let b : has rs (r .0 - 1) ≡ false = none-below (place (r .1) + 2) rs (r .0 - 1) (f .2) (omega (arith, f .1 .1)) in
     let e : eqb (r .0 % 2 ^ 48) 0 ≡ false = ne-eqb _ _ z in
     rw (a, c, b, e) refl)
-  (cases-eq (r .0 % 2 ^ 48) 0)
+    (cases-eq (r .0 % 2 ^ 48) 0)
   where
     a : within (r .0) (r .1) (r .0) ≡ true
     a = grind (arith, tells, f .1 .1)
@@ -67,13 +67,13 @@ beginnings-more m r rs (suc n) f =
     let ih = beginnings-more m r rs n f in
     ⊎-elim
     (λ (e : n ≡ r .0).
-      let a : begins (has (r ∷ rs)) n ≡ true = ap (begins (has (r ∷ rs))) e ∙ first-begins m r rs f in
-      let b : begins (has rs) n ≡ false = ap (begins (has rs)) e ∙ rest-begins-later m r rs f in
-      omega (arith, ih, cond-true {A = ℕ} (begins (has (r ∷ rs)) n) 1 0 a, cond-false {A = ℕ} (begins (has rs) n) 1 0 b, cond-true {A = ℕ} (ltb (r .0) (suc n)) 1 0 (lt-ltb _ _ (omega arith)), cond-false {A = ℕ} (ltb (r .0) n) 1 0 (le-ltb _ _ (omega arith))))
+    let a : begins (has (r ∷ rs)) n ≡ true = ap (begins (has (r ∷ rs))) e ∙ first-begins m r rs f in
+    let b : begins (has rs) n ≡ false = ap (begins (has rs)) e ∙ rest-begins-later m r rs f in
+    omega (arith, ih, cond-true {A = ℕ} (begins (has (r ∷ rs)) n) 1 0 a, cond-false {A = ℕ} (begins (has rs) n) 1 0 b, cond-true {A = ℕ} (ltb (r .0) (suc n)) 1 0 (lt-ltb _ _ (omega arith)), cond-false {A = ℕ} (ltb (r .0) n) 1 0 (le-ltb _ _ (omega arith))))
     (λ ne.
-      let a = ap (λ b. cond {A = ℕ} b 1 0) (same-beginning m r rs n f ne) in
-      let t : past-it (r .0) (suc n) ≡ past-it (r .0) n = ⊎-elim (λ l. cond-true {A = ℕ} (ltb (r .0) (suc n)) 1 0 (lt-ltb _ _ (omega arith)) ∙ sym (cond-true {A = ℕ} (ltb (r .0) n) 1 0 (lt-ltb _ _ l))) (λ l. cond-false {A = ℕ} (ltb (r .0) (suc n)) 1 0 (le-ltb _ _ (omega arith)) ∙ sym (cond-false {A = ℕ} (ltb (r .0) n) 1 0 (le-ltb _ _ l))) (cases-lt (r .0) n) in
-      omega (arith, ih, a, t))
+    let a = ap (λ b. cond {A = ℕ} b 1 0) (same-beginning m r rs n f ne) in
+    let t : past-it (r .0) (suc n) ≡ past-it (r .0) n = ⊎-elim (λ l. cond-true {A = ℕ} (ltb (r .0) (suc n)) 1 0 (lt-ltb _ _ (omega arith)) ∙ sym (cond-true {A = ℕ} (ltb (r .0) n) 1 0 (lt-ltb _ _ l))) (λ l. cond-false {A = ℕ} (ltb (r .0) (suc n)) 1 0 (le-ltb _ _ (omega arith)) ∙ sym (cond-false {A = ℕ} (ltb (r .0) n) 1 0 (le-ltb _ _ l))) (cases-lt (r .0) n) in
+    omega (arith, ih, a, t))
     (cases-eq n (r .0))
 
 no-beginnings : (n : ℕ) → beginnings (has []) n ≡ 0

@@ -71,9 +71,9 @@ module _ (n m : ℕ) (r q : Span) (rs qs : List Span) (f : From n (r ∷ rs)) (g
       ⊎-elim
       (λ low. none-below (place (r .1) + 2) rs id (f .2) (omega arith) ∙ sym (none-below (place (q .1) + 2) qs id (g .2) (omega arith)))
       (λ high.
-          let out : within (r .0) (r .1) id ≡ false = grind (arith, tells) in
-          let gone : within (q .0) (q .1) id ≡ false = grind (arith, tells) in
-          rw (out, gone) at (e id))
+      let out : within (r .0) (r .1) id ≡ false = grind (arith, tells) in
+      let gone : within (q .0) (q .1) id ≡ false = grind (arith, tells) in
+      rw (out, gone) at (e id))
       (cases-lt id (r .1 + 1))
 
 module _ (n m : ℕ) (r q : Span) (rs qs : List Span) (f : From n (r ∷ rs)) (g : From m (q ∷ qs)) (e : (id : ℕ) → has (r ∷ rs) id ≡ has (q ∷ qs) id) where

@@ -104,12 +104,12 @@ module _ (m n : Model) (from to : SetName) (e : n ≡ moved m from to) where
   pub moved-members : Moved m n from to
   moved-members = record {
     there = λ id. ⊎-elim
-      (λ (same : number from ≡ number to). ap (λ x. has (x to) id) (kept same) ∙ ap (λ s. has (m s) id) (same-name to from (sym same)))
-      (λ ne. ap (λ x. has (x to) id) (went ne) ∙ ap (λ l. has l id) (other-set (with-set m to (m from)) from to [] (λ q. ne (sym q)) ∙ this-set m to (m from)))
-      (cases-eq (number from) (number to));
+        (λ (same : number from ≡ number to). ap (λ x. has (x to) id) (kept same) ∙ ap (λ s. has (m s) id) (same-name to from (sym same)))
+        (λ ne. ap (λ x. has (x to) id) (went ne) ∙ ap (λ l. has l id) (other-set (with-set m to (m from)) from to [] (λ q. ne (sym q)) ∙ this-set m to (m from)))
+        (cases-eq (number from) (number to));
     gone = λ ne id. ap (λ x. has (x from) id) (went ne) ∙ ap (λ l. has l id) (this-set (with-set m to (m from)) from []);
     others = λ other nf nt. ⊎-elim
-      (λ (same : number from ≡ number to). ap (λ x. x other) (kept same))
-      (λ ne. ap (λ x. x other) (went ne) ∙ other-set (with-set m to (m from)) from other [] nf ∙ other-set m to other (m from) nt)
-      (cases-eq (number from) (number to));
+        (λ (same : number from ≡ number to). ap (λ x. x other) (kept same))
+        (λ ne. ap (λ x. x other) (went ne) ∙ other-set (with-set m to (m from)) from other [] nf ∙ other-set m to other (m from) nt)
+        (cases-eq (number from) (number to));
   }

@@ -29,9 +29,9 @@ parts : (lo hi id : ℕ) (r : Span) → lo ≤ hi → (has (part-below lo r) id 
 parts lo hi id r h =
     cond-both (ltb (r .0) lo) ((r .0, min (r .1) (lo - 1)) ∷ []) [] (λ l. (has l id || has (part-above hi r) id) ≡ (within (r .0) (r .1) id && not (within lo hi id)))
     (λ e. cond-both (ltb hi (r .1)) ((max (r .0) (hi + 1), r .1) ∷ []) [] (λ l. (has ((r .0, min (r .1) (lo - 1)) ∷ []) id || has l id) ≡ (within (r .0) (r .1) id && not (within lo hi id)))
-      (λ d. grind (arith, tells, ltb-true _ _ e, ltb-true _ _ d)) (λ d. grind (arith, tells, ltb-true _ _ e, ltb-false _ _ d)))
+    (λ d. grind (arith, tells, ltb-true _ _ e, ltb-true _ _ d)) (λ d. grind (arith, tells, ltb-true _ _ e, ltb-false _ _ d)))
     (λ e. cond-both (ltb hi (r .1)) ((max (r .0) (hi + 1), r .1) ∷ []) [] (λ l. has l id ≡ (within (r .0) (r .1) id && not (within lo hi id)))
-      (λ d. grind (arith, tells, ltb-false _ _ e, ltb-true _ _ d)) (λ d. grind (arith, tells, ltb-false _ _ e, ltb-false _ _ d)))
+    (λ d. grind (arith, tells, ltb-false _ _ e, ltb-true _ _ d)) (λ d. grind (arith, tells, ltb-false _ _ e, ltb-false _ _ d)))
 
 or-of-ands : (a b c : Bool) → ((a && c) || (b && c)) ≡ ((a || b) && c)
 or-of-ands true true true = refl

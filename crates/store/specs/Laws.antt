@@ -4,11 +4,11 @@ use mathlib.Core.Bool.{Bool, true, false, not, _&&_, _||_}
 use mathlib.Core.List.{List, [], _∷_}
 use Prim.Native.Nat.{ℕ, _+_, _-_, _*_, _^_, _≤_, _<_}
 use lib.ListN.{length}
-use Rattle.std.specs.Options.{Cases}
 use Rattle.std.specs.Orderings.{Decides}
+use Rattle.std.specs.declared.option.Option.the-variants.{Some}
 use Rattle.store.specs.Ids.{replid, counter, Lawful}
-use Rattle.store.specs.Ranges.{Span, apart, within, has, Canonical, with-range, without-range, next-range, goes-before, beginnings}
-use Rattle.store.specs.Sets.{Model, with-set, total}
+use Rattle.store.specs.Ranges.{Span, apart, within, has, Canonical, with-range, without-range, next-range, Lowest-or-none, beginnings}
+use Rattle.store.specs.Sets.{Model, number, numbered, with-set, total}
 use Rattle.store.specs.declared.sets.SetName.{SetName}
 
 abbrev pub An-ID-is-a-replica-and-a-counter : Type 0
@@ -42,17 +42,13 @@ Adding-by-membership = (rs : List Span) (low high : ℕ) → Canonical rs → La
 abbrev pub Removing-by-membership : Type 0
 Removing-by-membership = (rs : List Span) (low high : ℕ) → Canonical rs → Lawful low high → Canonical (without-range low high rs) × ((id : ℕ) → has (without-range low high rs) id ≡ (has rs id && not (within low high id)))
 
--- a maximal range of the set, the lowest that does not end below n
-pub record Lowest-not-below (rs : List Span) (n : ℕ) (r : Span) : Type 0 where
-  pub reaches : n ≤ r .1
-  pub whole : (id : ℕ) → within (r .0) (r .1) id ≡ true → has rs id ≡ true
-  pub begins-here : goes-before (has rs) (r .0) ≡ false
-  pub ends-here : replid (r .1 + 1) ≡ replid (r .1) → has rs (r .1 + 1) ≡ false
-  pub none-lower : (id : ℕ) → n ≤ id → id < r .0 → has rs id ≡ false
-
 abbrev pub Next-is-the-lowest-range-not-below : Type 0
-Next-is-the-lowest-range-not-below = (rs : List Span) (n : ℕ) → Canonical rs → Cases (next-range rs n) ((id : ℕ) → n ≤ id → has rs id ≡ false) (Lowest-not-below rs n)
+Next-is-the-lowest-range-not-below = (rs : List Span) (n : ℕ) → Canonical rs → Lowest-or-none rs n (next-range rs n)
 
 -- a set that changes changes the total by its own ranges alone
 abbrev pub Total-follows-each-set : Type 0
 Total-follows-each-set = (m : Model) (set : SetName) (rs : List Span) → total (with-set m set rs) + length (m set) ≡ total m + length rs
+
+-- each set has its own number
+abbrev pub Set-numbers-read-back : Type 0
+Set-numbers-read-back = (set : SetName) → (number set < 11) × (numbered (number set) ≡ Some set)

@@ -4,6 +4,7 @@ use mathlib.Core.Bool.{Bool, true, false, cond, not, _&&_, _||_}
 use mathlib.Core.List.{List, [], _∷_, _++_}
 use Prim.Native.Nat.{ℕ, zero, suc, _+_, _-_, _≤_, _<_, min, max}
 use lib.Dec.{leb, ltb, eqb}
+use Rattle.std.specs.Options.{Cases}
 use Rattle.std.specs.declared.option.Option.{Option}
 use Rattle.std.specs.declared.option.Option.the-variants.{Some, None}
 use Rattle.store.specs.Ids.{replid, counter, Lawful}
@@ -65,6 +66,18 @@ next-range (r ∷ rs) n = cond (ltb (r .1) n) (next-range rs n) (Some r)
 -- the ID before this one of the same replica is in the set
 unfoldable pub goes-before : (ℕ → Bool) → ℕ → Bool
 goes-before in-set id = cond (eqb (counter id) 0) false (in-set (id - 1))
+
+-- by members: a maximal range of the set, the lowest that does not end below n
+pub record Lowest-not-below (rs : List Span) (n : ℕ) (r : Span) : Type 0 where
+  pub reaches : n ≤ r .1
+  pub whole : (id : ℕ) → within (r .0) (r .1) id ≡ true → has rs id ≡ true
+  pub begins-here : goes-before (has rs) (r .0) ≡ false
+  pub ends-here : replid (r .1 + 1) ≡ replid (r .1) → has rs (r .1 + 1) ≡ false
+  pub none-lower : (id : ℕ) → n ≤ id → id < r .0 → has rs id ≡ false
+
+-- such a range; or none, where no ID from n on is in the set
+abbrev pub Lowest-or-none : List Span → ℕ → Option Span → Type 0
+Lowest-or-none rs n answer = Cases answer ((id : ℕ) → n ≤ id → has rs id ≡ false) (Lowest-not-below rs n)
 
 -- an ID begins a range of a set if it is in the set and the one before it of the same replica is not
 unfoldable pub begins : (ℕ → Bool) → ℕ → Bool

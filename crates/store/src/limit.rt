@@ -20,7 +20,9 @@ impl Limit {
         ensures { λ r. ⌜ Cases r (λ x. May-be-limit ranges × (x .ranges ≡ ranges)) (λ e. (listed e ≡ wrong-row-count) × (May-be-limit ranges → ⊥)) ⌝ }
     {
         if ranges >= 64 && ranges <= 65535 {
-            Ok(Limit { ranges: ranges as usize })
+            Ok(Limit {
+                ranges: ranges as usize,
+            })
         } else {
             Err(StoreRefusal::RowCount)
         }

@@ -37,6 +37,9 @@ impl StoreRefusal {
             StoreRefusal::RowCount => 1,
             StoreRefusal::Full => 25,
         };
-        Refusal { number, layer: Layer::Store }
+        Refusal {
+            number,
+            layer: Layer::Store,
+        }
     }
 }

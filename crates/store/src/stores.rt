@@ -3,7 +3,7 @@ ghost use mathlib.Core.Path.{_≡_};
 ghost use Prim.Native.Nat.{ℕ, _≤_};
 ghost use Rattle.std.specs.Vec.{made};
 ghost use Rattle.store.specs.Limits.{May-be-limit};
-ghost use Rattle.store.specs.Ranges.{Canonical, has, next-range};
+ghost use Rattle.store.specs.Ranges.{Canonical, has, next-range, Lowest-or-none};
 ghost use Rattle.store.specs.Sets.{Model, total};
 ghost use Rattle.store.specs.Changes.{put-into, taken-from, moved, cleared, Granted-if-it-fits, Added, Removed, Moved, Emptied};
 ghost use Rattle.store.specs.declared.sets.SetName.{SetName as Name};
@@ -55,7 +55,8 @@ pub trait RangeStore {
 
     /// The lowest maximal range of the set whose high end is not below `n`, as its lowest and highest ID.
     fn next(&self, set: SetName, n: u64) -> Option<(u64, u64)>
-        ensures { λ r. ⌜ r ≡ next-range (model (now (self .entry)) set) n ⌝ };
+        ensures list { λ r. ⌜ r ≡ next-range (model (now (self .entry)) set) n ⌝ }
+        ensures members { λ r. ⌜ Lowest-or-none (model (now (self .entry)) set) n r ⌝ };
 
     /// How many maximal ranges all sets have together.
     fn total(&self) -> usize

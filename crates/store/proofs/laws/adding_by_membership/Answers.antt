@@ -1,3 +1,4 @@
+-- The law that the contract of `adding_by_membership` states.
 use native.Mathlib.Omega.{arith}
 use Rattle.store.proofs.Adding.{adding-keeps-order, adding-members}
 use Rattle.store.proofs.laws.adding_by_membership.Needs as need

@@ -1,3 +1,4 @@
+-- The law that the contract of `id_is_a_replica_and_a_counter` states.
 use native.Mathlib.Omega.{arith}
 use Rattle.store.proofs.laws.id_is_a_replica_and_a_counter.Needs as need
 

@@ -1,3 +1,4 @@
+-- The law that the contract of `one_list_for_one_set` states.
 use Rattle.store.proofs.Members.{one-list}
 use Rattle.store.proofs.laws.one_list_for_one_set.Needs as need
 

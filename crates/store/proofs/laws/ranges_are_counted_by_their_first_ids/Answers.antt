@@ -1,3 +1,4 @@
+-- The law that the contract of `ranges_are_counted_by_their_first_ids` states.
 use Prim.Native.Nat.{_^_}
 use native.Mathlib.Omega.{arith}
 use Rattle.store.proofs.Counting.{counted}

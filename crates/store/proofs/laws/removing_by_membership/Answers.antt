@@ -1,3 +1,4 @@
+-- The law that the contract of `removing_by_membership` states.
 use Rattle.store.proofs.Removing.{removing-keeps-order, removing-members}
 use Rattle.store.proofs.laws.removing_by_membership.Needs as need
 

@@ -1,3 +1,4 @@
+-- The law that the contract of `total_follows_each_set` states.
 use Rattle.store.proofs.Models.{total-follows}
 use Rattle.store.proofs.laws.total_follows_each_set.Needs as need
 

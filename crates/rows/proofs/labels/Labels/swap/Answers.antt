@@ -14,7 +14,13 @@ pub ghost-self : need.ghost-self
 ghost-self c =
     let x = c .args .self .now in
     let a = c .set-index-a in
-    let b = c .set-index-b in
-    (as-long (x .label) _ _ _ _ ∙ omega arith, (as-long (x .owner) _ _ _ _ ∙ omega arith,
-    (swapped-back (x .label) (x .owner) (a .result) (b .result) (omega arith) (omega arith) (x .owned) (a .ensures .small) (b .ensures .small),
-    (swapped-owner (x .label) (x .owner) (a .result) (b .result) (omega arith) (omega arith) (x .owned) (x .labelled) (a .ensures .small) (b .ensures .small), tt))))
+    let b = c .set-index-b in (
+      as-long (x .label) _ _ _ _ ∙ omega arith,
+      (
+        as-long (x .owner) _ _ _ _ ∙ omega arith,
+        (
+          swapped-back (x .label) (x .owner) (a .result) (b .result) (omega arith) (omega arith) (x .owned) (a .ensures .small) (b .ensures .small),
+          (swapped-owner (x .label) (x .owner) (a .result) (b .result) (omega arith) (omega arith) (x .owned) (x .labelled) (a .ensures .small) (b .ensures .small), tt),
+        ),
+      ),
+    )

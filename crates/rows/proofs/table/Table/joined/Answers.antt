@@ -15,6 +15,6 @@ returns c =
     record {
       alone = λ h. absurd (omega arith);
       whole = λ d h. row-is _ _ _ _ _
-        (c .min .ensures ∙ ap (λ x. min x (c .index-first .result .now .low)) (c .low-low .ensures .value) ∙ ap (λ r. min (c .args .range .low) (r .low)) (sym (read t (c .args .from) (c .index-first .result .now) (omega arith) (c .index-first .ensures) d)))
-        (c .max .ensures ∙ ap (λ x. max x (c .index-last .result .now .high)) (c .high-high .ensures .value) ∙ ap (λ r. max (c .args .range .high) (r .high)) (sym (read t (c .args .to - 1) (c .index-last .result .now) (omega arith) (c .index-last .ensures) d)));
+          (c .min .ensures ∙ ap (λ x. min x (c .index-first .result .now .low)) (c .low-low .ensures .value) ∙ ap (λ r. min (c .args .range .low) (r .low)) (sym (read t (c .args .from) (c .index-first .result .now) (omega arith) (c .index-first .ensures) d)))
+          (c .max .ensures ∙ ap (λ x. max x (c .index-last .result .now .high)) (c .high-high .ensures .value) ∙ ap (λ r. max (c .args .range .high) (r .high)) (sym (read t (c .args .to - 1) (c .index-last .result .now) (omega arith) (c .index-last .ensures) d)));
     }
