@@ -46,6 +46,10 @@ spot-in-row r s id f h = ⊎-elim
         (λ ge. let k : ends-at r < spot s id = omega (arith, f .1) in grind (arith, tells))
         (cases-lt s (r .label))
 
+-- the same of a range's own spots
+pub spot-in-range : (g lo hi t id : ℕ) → g < 11 → Lawful lo hi → id < 2 ^ 64 → within (spot g lo) (spot g hi) (spot t id) ≡ (eqb g t && within lo hi id)
+spot-in-range g lo hi t id small law h = spot-in-row (record { label = g; low = lo; high = hi }) t id (small, law) h
+
 pub has-by-spot : (n s id : ℕ) (rs : List Row) → Rising n rs → id < 2 ^ 64 → has (ranges s rs) id ≡ covers rs (spot s id)
 has-by-spot n s id [] f h = refl
 has-by-spot n s id (r ∷ rs) f h =

@@ -21,8 +21,8 @@ use Rattle.rows.specs.Rows.{spot, begins-at, ends-at, Fair, Rising, ranges}
 use Rattle.rows.specs.Tables.{maybe, Changed}
 use Rattle.rows.proofs.Orders.{before-row, behind-row, fair-place, rising-join, rising-take, rising-drop}
 use Rattle.rows.proofs.Spots.{ranges-canonical}
-use Rattle.rows.proofs.Covers.{covers, covers-++, covers-none, spot-in-row, has-by-spot, changed, parts, replaced}
-use Rattle.rows.proofs.Middles.{same-test, all-both, below-place, from-place, middle-covers, middle-between, bounds, inside}
+use Rattle.rows.proofs.Covers.{covers, covers-++, covers-none, spot-in-range, has-by-spot, changed, parts, replaced}
+use Rattle.rows.proofs.Middles.{same-test, all-both, near-label, below-place, from-place, middle-covers, middle-between, bounds, inside}
 
 and-true : (x : Bool) → (x && true) ≡ x
 and-true true = refl
@@ -55,18 +55,15 @@ module _ (rs : List Row) (g lo hi i j : ℕ) (f : Rising 0 rs) (small : g < 11) 
       but-for false false true false x y = refl
       but-for false false false false x y = refl
 
-  alone : (t id : ℕ) → id < 2 ^ 64 → within (spot g lo) (spot g hi) (spot t id) ≡ (eqb g t && within lo hi id)
-  alone t id h = spot-in-row (record { label = g; low = lo; high = hi }) t id (small, law) h
-
   pub cut : Changed rs g (without-range lo hi (ranges g rs)) after
   cut = changed rs after g (without-range lo hi (ranges g rs)) f rises (removing-keeps-order 0 lo hi (ranges g rs) (law .1) (ranges-canonical g rs f))
       (λ id h.
       let same : eqb g g ≡ true = eq-eqb g g refl in
-      after-covers (spot g id) ∙ ap (λ b. covers rs (spot g id) && not b) (alone g id h ∙ ap (λ b. b && within lo hi id) same)
+      after-covers (spot g id) ∙ ap (λ b. covers rs (spot g id) && not b) (spot-in-range g lo hi g id small law h ∙ ap (λ b. b && within lo hi id) same)
       ∙ ap (λ b. b && not (within lo hi id)) (sym (has-by-spot 0 g id rs f h)) ∙ sym (removing-members lo hi id (ranges g rs) (law .1)))
       (λ t id ne h.
       let other : eqb g t ≡ false = ne-eqb g t (λ e. ne (sym e)) in
-      after-covers (spot t id) ∙ ap (λ b. covers rs (spot t id) && not b) (alone t id h ∙ ap (λ b. b && within lo hi id) other) ∙ and-true (covers rs (spot t id)))
+      after-covers (spot t id) ∙ ap (λ b. covers rs (spot t id) && not b) (spot-in-range g lo hi t id small law h ∙ ap (λ b. b && within lo hi id) other) ∙ and-true (covers rs (spot t id)))
 
 maybe-covers : (b : Bool) (r : Row) (p : ℕ) → covers (maybe b r) p ≡ (b && within (begins-at r) (ends-at r) p)
 maybe-covers true r p = or-comm (within (begins-at r) (ends-at r) p) false
@@ -109,14 +106,11 @@ module _ (rs : List Row) (g lo hi i j : ℕ) (d : Row) (f : Rising 0 rs) (small 
     last-overlaps : (spot g lo ≤ ends-at last) × (begins-at last < spot g hi + 1)
     last-overlaps = (from-place (λ r. spot g lo ≤ ends-at r) rs i (j - 1) d (omega arith) (omega arith) after, below-place (λ r. begins-at r < spot g hi + 1) rs j (j - 1) d lj (omega arith) begun)
 
-    one-label : (r : Row) → Fair r → (spot g lo ≤ ends-at r) × (begins-at r < spot g hi + 1) → r .label ≡ g
-    one-label r fr t = omega arith
-
     first-label : first .label ≡ g
-    first-label = one-label first first-fair first-overlaps
+    first-label = near-label g lo hi first law first-fair (omega (arith, first-overlaps)) (omega (arith, first-overlaps))
 
     last-label : last .label ≡ g
-    last-label = one-label last last-fair last-overlaps
+    last-label = near-label g lo hi last law last-fair (omega (arith, last-overlaps)) (omega (arith, last-overlaps))
 
     lower-ends : first .low < lo → (begins-at lower ≡ begins-at first) × (ends-at lower + 1 ≡ spot g lo) × Fair lower
     lower-ends h = (omega (arith, first-label), omega (arith, first-label, first-fair, first-overlaps), (small, omega (arith, first-label, first-fair, first-overlaps)))

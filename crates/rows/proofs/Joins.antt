@@ -21,8 +21,8 @@ use Rattle.rows.specs.Rows.{spot, begins-at, ends-at, Fair, Rising, ranges}
 use Rattle.rows.specs.Tables.{Changed}
 use Rattle.rows.proofs.Orders.{before-row, behind-row, fair-place, rising-join, rising-take, rising-drop}
 use Rattle.rows.proofs.Spots.{ranges-canonical}
-use Rattle.rows.proofs.Covers.{covers, covers-++, spot-in-row, has-by-spot, changed, parts, replaced}
-use Rattle.rows.proofs.Middles.{same-test, all-both, below-place, from-place, middle-covers, middle-between, bounds, inside}
+use Rattle.rows.proofs.Covers.{covers, covers-++, spot-in-range, has-by-spot, changed, parts, replaced}
+use Rattle.rows.proofs.Middles.{same-test, all-both, near-label, below-place, from-place, middle-covers, middle-between, bounds, inside}
 
 -- a row in the place of the rows from i to j, which covers their spots and those of low..high
 module _ (rs : List Row) (g lo hi i j : ℕ) (f : Rising 0 rs) (small : g < 11) (law : Lawful lo hi) (up : i ≤ j) (row : Row) (fair : Fair row)
@@ -49,19 +49,15 @@ module _ (rs : List Row) (g lo hi i j : ℕ) (f : Rising 0 rs) (small : g < 11) 
       shuffle false false false true = refl
       shuffle false false false false = refl
 
-  -- the range as a row of its own
-  alone : (t id : ℕ) → id < 2 ^ 64 → within (spot g lo) (spot g hi) (spot t id) ≡ (eqb g t && within lo hi id)
-  alone t id h = spot-in-row (record { label = g; low = lo; high = hi }) t id (small, law) h
-
   pub joined : Changed rs g (with-range lo hi (ranges g rs)) after
   joined = changed rs after g (with-range lo hi (ranges g rs)) f after-rises (adding-keeps-order 0 lo hi (ranges g rs) (omega arith) law (ranges-canonical g rs f))
       (λ id h.
       let same : eqb g g ≡ true = eq-eqb g g refl in
-      after-covers (spot g id) ∙ ap (λ b. covers rs (spot g id) || b) (alone g id h ∙ ap (λ b. b && within lo hi id) same)
+      after-covers (spot g id) ∙ ap (λ b. covers rs (spot g id) || b) (spot-in-range g lo hi g id small law h ∙ ap (λ b. b && within lo hi id) same)
       ∙ ap (λ b. b || within lo hi id) (sym (has-by-spot 0 g id rs f h)) ∙ sym (adding-members 0 lo hi id (ranges g rs) (law .1) (ranges-canonical g rs f)))
       (λ t id ne h.
       let other : eqb g t ≡ false = ne-eqb g t (λ e. ne (sym e)) in
-      after-covers (spot t id) ∙ ap (λ b. covers rs (spot t id) || b) (alone t id h ∙ ap (λ b. b && within lo hi id) other) ∙ or-comm (covers rs (spot t id)) false)
+      after-covers (spot t id) ∙ ap (λ b. covers rs (spot t id) || b) (spot-in-range g lo hi t id small law h ∙ ap (λ b. b && within lo hi id) other) ∙ or-comm (covers rs (spot t id)) false)
 
 -- what the two searches of a put find
 module _ (rs : List Row) (g lo hi i j : ℕ) (d : Row) (f : Rising 0 rs) (small : g < 11) (law : Lawful lo hi) (li : i ≤ length rs) (lj : j ≤ length rs) (up : i ≤ j)
@@ -97,18 +93,20 @@ module _ (rs : List Row) (g lo hi i j : ℕ) (d : Row) (f : Rising 0 rs) (small 
     last-touches : (spot g lo - 1 ≤ ends-at last) × (begins-at last < spot g hi + 2)
     last-touches = (from-place (λ r. spot g lo - 1 ≤ ends-at r) rs i (j - 1) d (omega arith) (omega arith) touch, below-place (λ r. begins-at r < spot g hi + 2) rs j (j - 1) d lj (omega arith) touched)
 
-    -- a row that touches the range is under its label
-    one-label : (r : Row) → Fair r → (spot g lo - 1 ≤ ends-at r) × (begins-at r < spot g hi + 2) → r .label ≡ g
-    one-label r fr t = omega arith
+    first-label : first .label ≡ g
+    first-label = near-label g lo hi first law first-fair (omega (arith, first-touches)) (omega (arith, first-touches))
+
+    last-label : last .label ≡ g
+    last-label = near-label g lo hi last law last-fair (omega (arith, last-touches)) (omega (arith, last-touches))
 
     whole-fair : Fair whole
-    whole-fair = (small, hull lo hi (first .low) (first .high) (last .low) (last .high) law (first-fair .1) (last-fair .1) (omega (arith, one-label first first-fair first-touches, first-touches)) (omega (arith, one-label first first-fair first-touches, first-touches)) (omega (arith, one-label last last-fair last-touches, last-touches)) (omega (arith, one-label last last-fair last-touches, last-touches)))
+    whole-fair = (small, hull lo hi (first .low) (first .high) (last .low) (last .high) law (first-fair .1) (last-fair .1) (omega (arith, first-label, first-touches)) (omega (arith, first-label, first-touches)) (omega (arith, last-label, last-touches)) (omega (arith, last-label, last-touches)))
       where
         hull : (lo hi a b x y : ℕ) → Lawful lo hi → Lawful a b → Lawful x y → place lo ≤ place b + 1 → place a ≤ place hi + 1 → place lo ≤ place y + 1 → place x ≤ place hi + 1 → Lawful (min lo a) (max hi y)
         hull lo hi a b x y l m n p q s t = omega arith
 
     low-end : (begins-at whole ≤ spot g lo) × (begins-at whole ≤ begins-at first) × ((begins-at whole ≡ spot g lo) ⊎ (begins-at whole ≡ begins-at first))
-    low-end = low (first .low) (one-label first first-fair first-touches)
+    low-end = low (first .low) (first-label)
       where
         low : (a : ℕ) → first .label ≡ g → (spot g (min lo a) ≤ spot g lo) × (spot g (min lo a) ≤ spot (first .label) a) × ((spot g (min lo a) ≡ spot g lo) ⊎ (spot g (min lo a) ≡ spot (first .label) a))
         low a is = ⊎-elim
@@ -117,7 +115,7 @@ module _ (rs : List Row) (g lo hi i j : ℕ) (d : Row) (f : Rising 0 rs) (small 
             (cases-lt lo a)
 
     high-end : (spot g hi ≤ ends-at whole) × (ends-at last ≤ ends-at whole) × ((ends-at whole ≡ spot g hi) ⊎ (ends-at whole ≡ ends-at last))
-    high-end = high (last .high) (one-label last last-fair last-touches)
+    high-end = high (last .high) (last-label)
       where
         high : (b : ℕ) → last .label ≡ g → (spot g hi ≤ spot g (max hi b)) × (spot (last .label) b ≤ spot g (max hi b)) × ((spot g (max hi b) ≡ spot g hi) ⊎ (spot g (max hi b) ≡ spot (last .label) b))
         high b is = ⊎-elim

@@ -3,17 +3,18 @@ use mathlib.Core.Path.{_≡_, refl, sym, ap, subst, _∙_}
 use mathlib.Core.Bool.{Bool, true, false, not, _&&_, _||_}
 use mathlib.Core.List.{List, [], _∷_, _++_}
 use mathlib.Core.Logic.{_⊎_, inl, inr, ⊎-elim}
-use Prim.Native.Nat.{ℕ, suc, _+_, _-_, _≤_, _<_}
+use Prim.Native.Nat.{ℕ, suc, _+_, _-_, _*_, _/_, _^_, _≤_, _<_}
 use native.Mathlib.Omega.{arith}
 use lib.ListN.{length, getD, take, drop, length-drop}
 use Rattle.std.specs.shelf.Lists.{All}
 use Rattle.std.proofs.shelf.Tests.{both-ways, cases-lt}
 use Rattle.std.proofs.shelf.Ways.{tells}
-use Rattle.store.specs.Ranges.{within}
+use Rattle.store.specs.Ids.{Lawful}
+use Rattle.store.specs.Ranges.{place, within}
 use Rattle.std.proofs.shelf.Lists.{getD-take, getD-drop, drop-take, length-take-le}
 use Rattle.std.proofs.shelf.Elements.{all-getD, all-take, all-drop}
 use Rattle.rows.specs.declared.row.Row.{Row}
-use Rattle.rows.specs.Rows.{begins-at, ends-at, Fair, Rising}
+use Rattle.rows.specs.Rows.{spot, begins-at, ends-at, Fair, Rising}
 use Rattle.rows.proofs.Orders.{fair-place, from-row, up-to-row, rising-join, rising-take, rising-drop}
 use Rattle.rows.proofs.Covers.{covers, covers-at, covers-between}
 
@@ -27,6 +28,10 @@ bounds a b p w = grind (arith, tells)
 
 pub inside : (a b p : ℕ) → a ≤ p → p ≤ b → within a b p ≡ true
 inside a b p l h = grind (arith, tells)
+
+-- a row that a range overlaps or adjoins is under its label
+pub near-label : (g lo hi : ℕ) (r : Row) → Lawful lo hi → Fair r → spot g lo ≤ ends-at r + 1 → begins-at r ≤ spot g hi + 1 → r .label ≡ g
+near-label g lo hi r law fair low high = omega arith
 
 pub all-both : (P Q R : Row → Type 0) → ((r : Row) → P r → Q r → R r) → (rs : List Row) → All P rs → All Q rs → All R rs
 all-both P Q R f [] a b = tt
