@@ -1,5 +1,6 @@
 -- What a script has made, and what each of its calls makes of that and answers.
 use mathlib.Core.Path.{_≡_}
+use mathlib.Core.Logic.{_⊎_}
 use Prim.Native.Nat.{ℕ}
 use Rattle.std.specs.Options.{mapped}
 use Rattle.std.specs.declared.option.Option.{Option}
@@ -31,3 +32,12 @@ abbrev pub Steps : Made → Call → Made → Answer → Type 0
 Steps before (MakeRows n) after answer = Makes n before after answer
 Steps None (Store call) after answer = (after ≡ None) × (answer ≡ NoCopy)
 Steps (Some store) (Store call) after answer = (sets : Model) × (after ≡ Some (store .0, sets)) × Performs (store .0) (store .1) call sets answer
+
+-- memory was wanting: only for the rows of a store that may be, and then all is as it was
+abbrev pub Wanting : Made → Call → Made → Type 0
+Wanting before (MakeRows n) after = May-be-limit n × (after ≡ before)
+Wanting before (Store call) after = ⊥
+
+-- a line makes one step by a call, or none
+abbrev pub Line : Made → Made → Type 0
+Line before after = (after ≡ before) ⊎ ((call : Call) × (answer : Answer) × Steps before call after answer)

@@ -2,7 +2,8 @@
 ghost use mathlib.Core.Path.{_≡_};
 ghost use Rattle.std.specs.Results.{Cases};
 ghost use Rattle.std.specs.declared.option.Option.the-variants.{None};
-ghost use Rattle.mailcopy.specs.Sessions.{made-so-far, Makes, Steps};
+ghost use Rattle.mailcopy.specs.Sessions.{made-so-far, Makes, Steps, Wanting, Line};
+ghost use Rattle.store.specs.Limits.{May-be-limit};
 use crate::answer::Answer;
 use crate::answer::write_answer;
 use crate::call::Call;
@@ -44,7 +45,7 @@ impl Session {
 
     // A store of so many rows in place of what was there, which a refusal leaves. No rows are asked for that no store can have.
     fn make_rows(&mut self, heap: Global, n: u64) -> Result<Answer, AllocError>
-        ensures { λ r. ⌜ Cases r (Makes n (made-so-far (now (self .entry))) (made-so-far (now (self .exit)))) (λ _. made-so-far (now (self .exit)) ≡ made-so-far (now (self .entry))) ⌝ }
+        ensures { λ r. ⌜ Cases r (Makes n (made-so-far (now (self .entry))) (made-so-far (now (self .exit)))) (λ _. May-be-limit n × (made-so-far (now (self .exit)) ≡ made-so-far (now (self .entry)))) ⌝ }
     {
         let limit = match Limit::new(n) {
             Ok(limit) => limit,
@@ -65,7 +66,7 @@ impl Session {
     }
 
     fn answer(&mut self, heap: Global, call: Call) -> Result<Answer, AllocError>
-        ensures { λ r. ⌜ Cases r (Steps (made-so-far (now (self .entry))) call (made-so-far (now (self .exit)))) (λ _. made-so-far (now (self .exit)) ≡ made-so-far (now (self .entry))) ⌝ }
+        ensures { λ r. ⌜ Cases r (Steps (made-so-far (now (self .entry))) call (made-so-far (now (self .exit)))) (λ _. Wanting (made-so-far (now (self .entry))) call (made-so-far (now (self .exit)))) ⌝ }
     {
         match call {
             Call::MakeRows(n) => self.make_rows(heap, n),
@@ -82,7 +83,9 @@ impl Session {
         heap: Global,
         line: &[u8],
         out: &mut Vec<u8>,
-    ) -> Result<(), AllocError> {
+    ) -> Result<(), AllocError>
+        ensures { λ _. ⌜ Line (made-so-far (now (self .entry))) (made-so-far (now (self .exit))) ⌝ }
+    {
         if is_skipped(line) {
             return Ok(());
         }

@@ -4,3 +4,4 @@ pub mod Members
 pub mod Counting
 pub mod Nexts
 pub mod Models
+pub mod Unchanged

@@ -6,12 +6,13 @@ use mathlib.Core.Logic.{_⊎_, inl, inr, ⊎-elim}
 use Prim.Native.Nat.{ℕ, _+_, _≤_, _<_}
 use native.Mathlib.Omega.{arith}
 use lib.Dec.{eqb, lit<}
-use Rattle.std.specs.declared.option.Option.the-variants.{Some}
+use Rattle.std.specs.declared.option.Option.the-variants.{Some, None}
 use lib.ListN.{length}
 use Rattle.std.proofs.shelf.Tests.{eq-eqb, ne-eqb, cases-eq, cond-true, cond-false}
+use Rattle.std.proofs.shelf.Ways.{tells}
 use Rattle.store.specs.Ids.{Lawful}
 use Rattle.store.specs.Ranges.{Span, has, within, Canonical, with-range, without-range}
-use Rattle.store.specs.Sets.{Model, number, numbered, with-set, total}
+use Rattle.store.specs.Sets.{Model, nothing, number, numbered, with-set, total}
 use Rattle.store.specs.Changes.{put-into, taken-from, moved, cleared, Added, Removed, Emptied, Moved}
 use Rattle.store.specs.declared.sets.SetName.{SetName}
 use Rattle.store.specs.declared.sets.SetName.the-variants.{KeptGiven, KeptSeen, KeptSeenFai, KeptRead, TrackedGiven, TrackedSeen, TrackedSeenFai, ToldGiven, ToldSeen, ToldSeenFai, ToldRead}
@@ -38,6 +39,10 @@ total-follows m ToldSeen rs = omega arith
 total-follows m ToldSeenFai rs = omega arith
 total-follows m ToldRead rs = omega arith
 
+pub total-nothing : total nothing ≡ 0
+unfolding total
+total-nothing = refl
+
 pub numbered-back : (set : SetName) → numbered (number set) ≡ Some set
 numbered-back KeptGiven = refl
 numbered-back KeptSeen = refl
@@ -50,6 +55,9 @@ numbered-back ToldGiven = refl
 numbered-back ToldSeen = refl
 numbered-back ToldSeenFai = refl
 numbered-back ToldRead = refl
+
+pub numbered-past : (n : ℕ) → 10 < n → numbered n ≡ None
+numbered-past n h = grind (arith, tells)
 
 -- one name for one number
 pub same-name : (s t : SetName) → number s ≡ number t → s ≡ t

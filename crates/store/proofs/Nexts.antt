@@ -30,6 +30,7 @@ module _ (n k : ℕ) (r q : Span) (rs : List Span) (f : From n (r ∷ rs)) (lt :
   lowest-after : Lowest-not-below (r ∷ rs) k q
   unfolding goes-before
   lowest-after = record {
+    lawful = fine;
     reaches = old .reaches;
     whole = λ id w. or-right _ _ (old .whole id w);
     begins-here = ⊎-elim
@@ -64,6 +65,7 @@ next-is-lowest n (r ∷ rs) k f =
     cond-both (ltb (r .1) k) (next-range rs k) (Some r) (Lowest-or-none (r ∷ rs) k)
     (λ e. later (ltb-true _ _ e) (next-range rs k) (next-is-one (place (r .1) + 2) rs k (f .2)) (next-is-lowest (place (r .1) + 2) rs k (f .2)))
     (λ e. record {
+      lawful = f .1;
       reaches = ltb-false _ _ e;
       whole = λ id w. or-left _ _ w;
       begins-here = before-first n r rs f;

@@ -69,6 +69,7 @@ goes-before in-set id = cond (eqb (counter id) 0) false (in-set (id - 1))
 
 -- by members: a maximal range of the set, the lowest that does not end below n
 pub record Lowest-not-below (rs : List Span) (n : ℕ) (r : Span) : Type 0 where
+  pub lawful : Lawful (r .0) (r .1)
   pub reaches : n ≤ r .1
   pub whole : (id : ℕ) → within (r .0) (r .1) id ≡ true → has rs id ≡ true
   pub begins-here : goes-before (has rs) (r .0) ≡ false

@@ -1,5 +1,6 @@
 // The names of the eleven sets.
 ghost use mathlib.Core.Path.{_≡_};
+ghost use Prim.Native.Nat.{_<_};
 ghost use Rattle.store.specs.Sets.{number, numbered};
 
 /// One of the eleven sets of a store: four kept, three tracked while a transfer is open, four told by its end.
@@ -21,7 +22,8 @@ pub enum SetName {
 impl SetName {
     /// The set's number, 0 to 10 in the order above.
     pub fn number(self) -> u8
-        ensures { λ r. ⌜ r ≡ number self ⌝ }
+        ensures value { λ r. ⌜ r ≡ number self ⌝ }
+        ensures small { λ r. ⌜ r < 11 ⌝ }
     {
         self as u8
     }

@@ -39,7 +39,7 @@ fn with_digit(number: u64, byte: u8) -> Option<u64>
 
 /// Writes a number at the end of `out`, without leading zeros; zero is `0`.
 ///
-/// Refuses only for want of memory, and then leaves `out` as it was.
+/// Fails for want of memory, and then leaves `out` as it was.
 pub fn write_decimal(n: u64, out: &mut Vec<u8>) -> Result<(), AllocError>
     ensures { λ r. ⌜ vec-items (now (out .exit)) ≡ cond (isOk r) (vec-items (now (out .entry)) ++ digits n) (vec-items (now (out .entry))) ⌝ }
 {
@@ -47,9 +47,7 @@ pub fn write_decimal(n: u64, out: &mut Vec<u8>) -> Result<(), AllocError>
     out.extend_from_slice(text.as_bytes())
 }
 
-/// States that a printed number reads back as itself. It does nothing, and answers `true`.
-pub fn printed_number_reads_back() -> bool
+/// States that a printed number reads back as itself. It does nothing.
+pub fn printed_number_reads_back()
     ensures { λ _. ⌜ Printed-number-reads-back ⌝ }
-{
-    true
-}
+{}

@@ -16,7 +16,7 @@ use std::alloc::Global;
 /// letters may be small or capital. The word `-` stands for no bytes.
 ///
 /// Refuses, by `None`, the empty word, an odd number of digits, and a byte that is no hex digit;
-/// fails only for want of memory.
+/// fails for want of memory.
 pub fn read_hex(heap: Global, word: &[u8]) -> Result<Option<Vec<u8>>, AllocError>
     ensures { λ r. ⌜ made r (λ o. mapped vec-items o ≡ hex-bytes (now (word .entry))) ⌝ }
 {
@@ -68,7 +68,7 @@ fn digit_value(digit: u8) -> Option<u8>
 
 /// Writes bytes at the end of `out` in hex, two digits for each byte with small letters; no bytes are `-`.
 ///
-/// Refuses only for want of memory, and then leaves `out` as it was.
+/// Fails for want of memory, and then leaves `out` as it was.
 pub fn write_hex(bytes: &[u8], out: &mut Vec<u8>) -> Result<(), AllocError>
     ensures { λ r. ⌜ vec-items (now (out .exit)) ≡ cond (isOk r) (vec-items (now (out .entry)) ++ hex-text (now (bytes .entry))) (vec-items (now (out .entry))) ⌝ }
 {
@@ -76,7 +76,7 @@ pub fn write_hex(bytes: &[u8], out: &mut Vec<u8>) -> Result<(), AllocError>
     out.extend_from_slice(text.as_slice())
 }
 
-/// The text that `write_hex` writes of bytes; fails only for want of memory.
+/// The text that `write_hex` writes of bytes; fails for want of memory.
 fn hex_of(heap: Global, bytes: &[u8]) -> Result<Vec<u8>, AllocError>
     ensures { λ r. ⌜ made r (λ text. vec-items text ≡ hex-text (now (bytes .entry))) ⌝ }
 {
@@ -103,9 +103,7 @@ fn character(half: u8) -> u8
     }
 }
 
-/// States that printed bytes read back as themselves. It does nothing, and answers `true`.
-pub fn printed_bytes_read_back() -> bool
+/// States that printed bytes read back as themselves. It does nothing.
+pub fn printed_bytes_read_back()
     ensures { λ _. ⌜ Printed-bytes-read-back ⌝ }
-{
-    true
-}
+{}

@@ -13,8 +13,8 @@ as-long l i v j w = length-set (set l i v) j w ∙ length-set l i v
 pub ghost-self : need.ghost-self
 ghost-self c =
     let x = c .args .self .now in
-    let a = c .set-index-a in
-    let b = c .set-index-b in (
+    let a = c .number-a in
+    let b = c .number-b in (
       as-long (x .label) _ _ _ _ ∙ omega arith,
       (
         as-long (x .owner) _ _ _ _ ∙ omega arith,
