@@ -9,12 +9,16 @@ ghost use Rattle.rows.specs.Tables.{rows-of};
 use crate::row::Row;
 use crate::table::Label;
 use crate::table::Table;
+use store::COUNTERS;
+
+// How far apart on the line two labels begin: further than all IDs with a gap for each replica.
+const LABEL_SPAN: u128 = 0x4_0000_0000_0000_0000;
 
 /// Where an ID under a label stands on one line, on which IDs under two labels and IDs of two replicas are never neighbours.
 pub fn spot(label: u8, id: u64) -> u128
     ensures { λ r. ⌜ r ≡ spot label id ⌝ }
 {
-    label as u128 * 0x4_0000_0000_0000_0000 + id as u128 + (id / 0x1_0000_0000_0000) as u128
+    label as u128 * LABEL_SPAN + id as u128 + (id / COUNTERS) as u128
 }
 
 impl Row {

@@ -7,6 +7,7 @@ pub mod sets;
 pub mod stores;
 
 pub use limit::Limit;
+pub use range::COUNTERS;
 pub use range::Range;
 pub use refusal::Layer;
 pub use refusal::LayerDebug;

@@ -4,6 +4,9 @@ ghost use Prim.Native.Nat.{ℕ, _/_, _^_, _≤_, _<_};
 ghost use Rattle.std.specs.Options.{Cases};
 ghost use Rattle.store.specs.Ids.{Lawful, replid};
 
+/// How many counters a REPLID has. An ID is REPLID × COUNTERS + counter, so it is also the lowest ID.
+pub const COUNTERS: u64 = 0x1_0000_0000_0000;
+
 /// The IDs from `low` to `high`, all of one REPLID.
 #[derive(Clone, Copy)]
 pub struct Range {
@@ -19,8 +22,7 @@ impl Range {
     pub fn new(low: u64, high: u64) -> Option<Range>
         ensures { λ r. ⌜ Cases r (Lawful low high → ⊥) (λ x. Lawful low high × (x .low ≡ low) × (x .high ≡ high)) ⌝ }
     {
-        let first = 0x1_0000_0000_0000;
-        if low >= first && low <= high && low / first == high / first {
+        if low >= COUNTERS && low <= high && low / COUNTERS == high / COUNTERS {
             Some(Range { low, high })
         } else {
             None
