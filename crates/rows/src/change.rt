@@ -18,7 +18,7 @@ use store::StoreRefusal;
 
 impl Table {
     /// Puts the range's IDs under the label; refused as full where that takes more rows than there are.
-    pub fn put(&mut self, label: Label, range: Range) -> Result<(), StoreRefusal>
+    pub(crate) fn put(&mut self, label: Label, range: Range) -> Result<(), StoreRefusal>
         ensures len { λ _. ⌜ vec-len (now (self .exit) .rows) ≡ vec-len (now (self .entry) .rows) ⌝ }
         ensures rows { λ r. ⌜ Changed-if-it-fits (vec-len (now (self .entry) .rows)) (rows-of (now (self .entry))) (label .value) (with-range (range .low) (range .high) (ranges (label .value) (rows-of (now (self .entry))))) (rows-of (now (self .exit))) r ⌝ }
     {
@@ -53,7 +53,7 @@ impl Table {
     }
 
     /// Takes the range's IDs from under the label; refused as full where that takes more rows than there are.
-    pub fn take(&mut self, label: Label, range: Range) -> Result<(), StoreRefusal>
+    pub(crate) fn take(&mut self, label: Label, range: Range) -> Result<(), StoreRefusal>
         ensures len { λ _. ⌜ vec-len (now (self .exit) .rows) ≡ vec-len (now (self .entry) .rows) ⌝ }
         ensures rows { λ r. ⌜ Changed-if-it-fits (vec-len (now (self .entry) .rows)) (rows-of (now (self .entry))) (label .value) (without-range (range .low) (range .high) (ranges (label .value) (rows-of (now (self .entry))))) (rows-of (now (self .exit))) r ⌝ }
     {
@@ -67,7 +67,7 @@ impl Table {
     }
 
     /// Takes all from under the label.
-    pub fn clear(&mut self, label: Label)
+    pub(crate) fn clear(&mut self, label: Label)
         ensures len { λ _. ⌜ vec-len (now (self .exit) .rows) ≡ vec-len (now (self .entry) .rows) ⌝ }
         ensures rows { λ _. ⌜ Changed (rows-of (now (self .entry))) (label .value) [] (rows-of (now (self .exit))) ⌝ }
     {

@@ -30,7 +30,7 @@ fn splice(rows: &mut Vec<Row>, used: usize, from: usize, to: usize, new: &[Row])
 
 impl Table {
     // The rows from `from` to `to` give way to `new`.
-    pub fn replace(&mut self, from: usize, to: usize, new: &[Row])
+    pub(crate) fn replace(&mut self, from: usize, to: usize, new: &[Row])
         requires up { ⌜ from ≤ to ⌝ }
         requires to { ⌜ to ≤ now self .used ⌝ }
         requires room { ⌜ from + length (now new) + (now self .used - to) ≤ vec-len (now self .rows) ⌝ }
@@ -43,7 +43,7 @@ impl Table {
     }
 
     // The same, refused where there would be more rows than there are.
-    pub fn replace_if_it_fits(
+    pub(crate) fn replace_if_it_fits(
         &mut self,
         from: usize,
         to: usize,

@@ -22,7 +22,7 @@ pub struct Labels {
 
 impl Labels {
     /// Each set has its own number for its label.
-    pub fn new() -> Labels
+    pub(crate) fn new() -> Labels
         ensures { λ r. ⌜ r .label ≡ 0 ∷ 1 ∷ 2 ∷ 3 ∷ 4 ∷ 5 ∷ 6 ∷ 7 ∷ 8 ∷ 9 ∷ 10 ∷ [] ⌝ }
     {
         let own = [0, 1, 2, 3, 4, 5, 6, 7, 8, 9, 10];
@@ -33,7 +33,7 @@ impl Labels {
     }
 
     /// The label of a set.
-    pub fn of(&self, set: SetName) -> Label
+    pub(crate) fn of(&self, set: SetName) -> Label
         ensures { λ r. ⌜ r .value ≡ getD (now (self .entry) .label) (number set) 0 ⌝ }
     {
         Label {
@@ -42,7 +42,7 @@ impl Labels {
     }
 
     /// Two sets change labels.
-    pub fn swap(&mut self, one: SetName, two: SetName)
+    pub(crate) fn swap(&mut self, one: SetName, two: SetName)
         ensures { λ _. ⌜ now (self .exit) .label ≡ put (put (now (self .entry) .label) (number one) (getD (now (self .entry) .label) (number two) 0)) (number two) (getD (now (self .entry) .label) (number one) 0) ⌝ }
     {
         let a = one.number() as usize;

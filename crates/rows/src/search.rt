@@ -15,7 +15,7 @@ use store::COUNTERS;
 const LABEL_SPAN: u128 = 0x4_0000_0000_0000_0000;
 
 /// Where an ID under a label stands on one line, on which IDs under two labels and IDs of two replicas are never neighbours.
-pub fn spot(label: u8, id: u64) -> u128
+pub(crate) fn spot(label: u8, id: u64) -> u128
     ensures { λ r. ⌜ r ≡ spot label id ⌝ }
 {
     label as u128 * LABEL_SPAN + id as u128 + (id / COUNTERS) as u128
@@ -37,7 +37,7 @@ impl Row {
 
 impl Table {
     /// How many rows end before this spot.
-    pub fn ending_before(&self, at: u128) -> usize
+    pub(crate) fn ending_before(&self, at: u128) -> usize
         ensures inside { λ r. ⌜ r ≤ length (rows-of (now (self .entry))) ⌝ }
         ensures before { λ r. ⌜ All (λ x. ends-at x < at) (take r (rows-of (now (self .entry)))) ⌝ }
         ensures after { λ r. ⌜ All (λ x. at ≤ ends-at x) (drop r (rows-of (now (self .entry)))) ⌝ }
@@ -57,7 +57,7 @@ impl Table {
     }
 
     /// How many rows begin before this spot.
-    pub fn beginning_before(&self, at: u128) -> usize
+    pub(crate) fn beginning_before(&self, at: u128) -> usize
         ensures inside { λ r. ⌜ r ≤ length (rows-of (now (self .entry))) ⌝ }
         ensures before { λ r. ⌜ All (λ x. begins-at x < at) (take r (rows-of (now (self .entry)))) ⌝ }
         ensures after { λ r. ⌜ All (λ x. at ≤ begins-at x) (drop r (rows-of (now (self .entry)))) ⌝ }
@@ -73,7 +73,7 @@ impl Table {
     }
 
     /// The lowest range under the label whose high end is not below `n`.
-    pub fn next(&self, label: Label, n: u64) -> Option<(u64, u64)>
+    pub(crate) fn next(&self, label: Label, n: u64) -> Option<(u64, u64)>
         ensures { λ r. ⌜ r ≡ next-range (ranges (label .value) (rows-of (now (self .entry)))) n ⌝ }
     {
         let found = self.ending_before(spot(label.value, n));
@@ -87,7 +87,7 @@ impl Table {
     }
 
     /// Whether the ID is in a range under the label.
-    pub fn holds(&self, label: Label, id: u64) -> bool
+    pub(crate) fn holds(&self, label: Label, id: u64) -> bool
         ensures { λ r. ⌜ r ≡ has (ranges (label .value) (rows-of (now (self .entry)))) id ⌝ }
     {
         match self.next(label, id) {
