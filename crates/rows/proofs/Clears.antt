@@ -1,23 +1,21 @@
 -- All rows under one label taken out.
-use mathlib.Core.Path.{_≡_, refl, sym, ap, subst, _∙_}
-use mathlib.Core.Bool.{Bool, true, false, _||_}
-use mathlib.Core.List.{List, [], _∷_, _++_}
+use mathlib.Core.Path.{_≡_, sym, ap, subst, _∙_}
+use mathlib.Core.Bool.{false, _||_}
+use mathlib.Core.List.{List, [], _++_}
 use mathlib.Core.Logic.{_⊎_, inl, inr, ⊎-elim}
-use Prim.Native.Nat.{ℕ, _+_, _-_, _*_, _/_, _^_, _≤_, _<_}
+use Prim.Native.Nat.{ℕ, _+_, _-_, _^_, _≤_, _<_}
 use native.Mathlib.Omega.{arith}
-use lib.ListN.{length, take, drop}
+use lib.ListN.{take, drop}
 use Rattle.std.specs.shelf.Lists.{All}
 use Rattle.std.proofs.shelf.Tests.{cases-lt}
 use Rattle.std.proofs.shelf.Lists.{drop-take}
 use Rattle.std.proofs.shelf.Elements.{all-take, all-drop}
-use Rattle.store.specs.Ranges.{place}
-use Rattle.store.proofs.Members.{or-comm}
 use Rattle.rows.specs.declared.row.Row.{Row}
-use Rattle.rows.specs.Rows.{spot, begins-at, ends-at, Fair, Rising, ranges}
+use Rattle.rows.specs.Rows.{spot, begins-at, ends-at, Fair, Rising}
 use Rattle.rows.specs.Tables.{Changed}
 use Rattle.rows.proofs.Orders.{fair-rows, rising-join, rising-take, rising-drop}
 use Rattle.rows.proofs.Covers.{covers, covers-none, changed, parts, replaced}
-use Rattle.rows.proofs.Middles.{all-both, below-place, from-place}
+use Rattle.rows.proofs.Middles.{all-both}
 
 -- what the two searches of a clear find
 module _ (rs : List Row) (g i j : ℕ) (f : Rising 0 rs) (up : i ≤ j)

@@ -1,18 +1,18 @@
 -- The spots that rows cover on the line of all labels and IDs, and that these alone decide what the rows stand for.
-use mathlib.Core.Path.{_≡_, refl, sym, ap, subst, _∙_}
-use mathlib.Core.Bool.{Bool, true, false, cond, not, _&&_, _||_}
+use mathlib.Core.Path.{_≡_, refl, sym, ap, _∙_}
+use mathlib.Core.Bool.{Bool, true, false, cond, _&&_, _||_}
 use mathlib.Core.List.{List, [], _∷_, _++_}
 use mathlib.Core.Logic.{_⊎_, inl, inr, ⊎-elim}
-use Prim.Native.Nat.{ℕ, zero, suc, _+_, _-_, _*_, _/_, _^_, _≤_, _<_}
+use Prim.Native.Nat.{ℕ, zero, suc, _+_, _-_, _^_, _≤_, _<_}
 use native.Mathlib.Omega.{arith}
-use lib.Dec.{leb, ltb, eqb}
+use lib.Dec.{eqb}
 use lib.ListN.{length, getD, take, drop, take-append-drop}
 use Rattle.std.specs.shelf.Lists.{All}
-use Rattle.std.proofs.shelf.Tests.{both-ways, cases-bool, cases-lt, or-cases, or-left, or-right, cond-both, cond-true, cond-false, eq-eqb, ne-eqb, eqb-true, eqb-false}
+use Rattle.std.proofs.shelf.Tests.{both-ways, cases-bool, cases-lt, or-cases, or-left, or-right, eq-eqb, ne-eqb, eqb-true, eqb-false}
 use Rattle.std.proofs.shelf.Ways.{tells}
 use Rattle.std.proofs.shelf.Lists.{take-take}
 use Rattle.store.specs.Ids.{Lawful}
-use Rattle.store.specs.Ranges.{Span, place, within, has, From, Canonical}
+use Rattle.store.specs.Ranges.{Span, within, has, Canonical}
 use Rattle.store.proofs.Members.{or-assoc, one-list, only-ids}
 use Rattle.rows.specs.declared.row.Row.{Row}
 use Rattle.rows.specs.Rows.{spot, begins-at, ends-at, Fair, Rising, ranges}

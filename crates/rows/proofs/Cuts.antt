@@ -1,19 +1,19 @@
 -- A range taken out of rows: what it leaves of those that it overlaps.
 use mathlib.Core.Path.{_≡_, refl, sym, ap, subst, _∙_}
-use mathlib.Core.Bool.{Bool, true, false, cond, not, _&&_, _||_}
+use mathlib.Core.Bool.{Bool, true, false, not, _&&_, _||_}
 use mathlib.Core.List.{List, [], _∷_, _++_, append-assoc}
 use mathlib.Core.Logic.{_⊎_, inl, inr, ⊎-elim}
-use Prim.Native.Nat.{ℕ, suc, _+_, _-_, _*_, _/_, _^_, _≤_, _<_}
+use Prim.Native.Nat.{ℕ, suc, _+_, _-_, _≤_, _<_}
 use native.Mathlib.Omega.{arith}
-use lib.Dec.{leb, ltb, eqb}
+use lib.Dec.{ltb, eqb}
 use lib.ListN.{length, getD, take, drop, take-append-drop}
 use Rattle.std.specs.shelf.Lists.{All}
-use Rattle.std.proofs.shelf.Tests.{both-ways, cases-lt, cases-bool, or-cases, or-left, or-right, and-parts, and-from, not-true, not-from-false, ne-eqb, eq-eqb, cond-both, lt-ltb, le-ltb, ltb-true, ltb-false}
+use Rattle.std.proofs.shelf.Tests.{both-ways, cases-lt, or-cases, or-left, or-right, and-parts, and-from, not-true, not-from-false, ne-eqb, eq-eqb, cond-both, lt-ltb, ltb-true}
 use Rattle.std.proofs.shelf.Ways.{tells}
 use Rattle.std.proofs.shelf.Lists.{drop-all, length-take-le}
 use Rattle.std.proofs.shelf.Elements.{all-weaker}
 use Rattle.store.specs.Ids.{Lawful}
-use Rattle.store.specs.Ranges.{Span, place, within, has, without-range}
+use Rattle.store.specs.Ranges.{place, within, without-range}
 use Rattle.store.proofs.Removing.{removing-keeps-order, removing-members}
 use Rattle.store.proofs.Members.{or-comm}
 use Rattle.rows.specs.declared.row.Row.{Row}
@@ -22,7 +22,7 @@ use Rattle.rows.specs.Tables.{maybe, Changed}
 use Rattle.rows.proofs.Orders.{before-row, behind-row, fair-place, rising-join, rising-take, rising-drop}
 use Rattle.rows.proofs.Spots.{ranges-canonical}
 use Rattle.rows.proofs.Covers.{covers, covers-++, covers-none, spot-in-range, has-by-spot, changed, parts, replaced}
-use Rattle.rows.proofs.Middles.{same-test, all-both, near-label, below-place, from-place, middle-covers, middle-between, bounds, inside}
+use Rattle.rows.proofs.Middles.{same-test, near-label, below-place, from-place, middle-covers, middle-between, bounds, inside}
 
 and-true : (x : Bool) → (x && true) ≡ x
 and-true true = refl

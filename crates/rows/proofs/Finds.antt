@@ -1,11 +1,11 @@
 -- What the searches of a change find in a table, and that what is then put in its place is what was asked for.
 use mathlib.Core.Path.{_≡_, refl, sym, ap, subst, _∙_}
-use mathlib.Core.Bool.{Bool, true, false, cond, not}
+use mathlib.Core.Bool.{Bool, true, false, cond}
 use mathlib.Core.List.{List, [], _∷_, _++_}
-use mathlib.Core.Logic.{_⊎_, inl, inr, ⊎-elim}
+use mathlib.Core.Logic.{_⊎_, ⊎-elim}
 use Prim.Native.Nat.{ℕ, _+_, _-_, _^_, _≤_, _<_, min, max}
 use native.Mathlib.Omega.{arith}
-use lib.Dec.{ltb, leb}
+use lib.Dec.{ltb}
 use lib.ListN.{length, getD, take, drop}
 use Rattle.std.specs.shelf.Lists.{All}
 use Rattle.std.specs.Results.{Cases}
@@ -18,10 +18,10 @@ use Rattle.store.specs.Refusals.{listed, store-full}
 use Rattle.store.specs.declared.refusal.StoreRefusal.{StoreRefusal}
 use Rattle.rows.specs.declared.row.Row.{Row}
 use Rattle.rows.specs.declared.table.Table.{Table}
-use Rattle.rows.specs.Rows.{spot, begins-at, ends-at, Rising, ranges}
+use Rattle.rows.specs.Rows.{spot, begins-at, ends-at, ranges}
 use Rattle.rows.specs.Tables.{rows-of, maybe, Changed, Changed-if-it-fits}
 use Rattle.rows.proofs.Orders.{fair-place}
-use Rattle.rows.proofs.Searches.{in-order, in-use, blank}
+use Rattle.rows.proofs.Searches.{in-order, blank}
 use Rattle.rows.proofs.Middles.{ordered-places, below-place, from-place}
 use Rattle.rows.proofs.Joins.{lone, together}
 use Rattle.rows.proofs.Cuts.{untouched, left-over}

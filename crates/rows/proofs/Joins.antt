@@ -1,27 +1,26 @@
 -- A range put into rows: those that it touches become one row with it.
 use mathlib.Core.Path.{_≡_, refl, sym, ap, subst, _∙_}
-use mathlib.Core.Bool.{Bool, true, false, cond, _&&_, _||_}
+use mathlib.Core.Bool.{Bool, true, false, _&&_, _||_}
 use mathlib.Core.List.{List, [], _∷_, _++_}
 use mathlib.Core.Logic.{_⊎_, inl, inr, ⊎-elim}
-use Prim.Native.Nat.{ℕ, suc, _+_, _-_, _*_, _/_, _^_, _≤_, _<_, min, max}
+use Prim.Native.Nat.{ℕ, suc, _+_, _-_, _≤_, _<_, min, max}
 use native.Mathlib.Omega.{arith}
-use lib.Dec.{leb, ltb, eqb}
+use lib.Dec.{eqb}
 use lib.ListN.{length, getD, take, drop}
 use Rattle.std.specs.shelf.Lists.{All}
-use Rattle.std.proofs.shelf.Tests.{cases-lt, or-cases, or-left, or-right, ne-eqb, eq-eqb, cond-true, cond-false, lt-ltb, le-ltb}
-use Rattle.std.proofs.shelf.Ways.{tells}
+use Rattle.std.proofs.shelf.Tests.{cases-lt, or-cases, or-left, or-right, ne-eqb, eq-eqb}
 use Rattle.std.proofs.shelf.Elements.{all-weaker}
 use Rattle.std.proofs.shelf.Lists.{drop-all, length-take-le}
 use Rattle.store.specs.Ids.{Lawful}
-use Rattle.store.specs.Ranges.{Span, place, within, has, with-range}
+use Rattle.store.specs.Ranges.{place, within, with-range}
 use Rattle.store.proofs.Adding.{adding-keeps-order, adding-members}
-use Rattle.store.proofs.Members.{or-assoc, or-comm}
+use Rattle.store.proofs.Members.{or-comm}
 use Rattle.rows.specs.declared.row.Row.{Row}
 use Rattle.rows.specs.Rows.{spot, begins-at, ends-at, Fair, Rising, ranges}
 use Rattle.rows.specs.Tables.{Changed}
 use Rattle.rows.proofs.Orders.{before-row, behind-row, fair-place, rising-join, rising-take, rising-drop}
 use Rattle.rows.proofs.Spots.{ranges-canonical}
-use Rattle.rows.proofs.Covers.{covers, covers-++, spot-in-range, has-by-spot, changed, parts, replaced}
+use Rattle.rows.proofs.Covers.{covers, spot-in-range, has-by-spot, changed, parts, replaced}
 use Rattle.rows.proofs.Middles.{same-test, all-both, near-label, below-place, from-place, middle-covers, middle-between, bounds, inside}
 
 -- a row in the place of the rows from i to j, which covers their spots and those of low..high

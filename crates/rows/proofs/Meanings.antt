@@ -1,11 +1,9 @@
 -- What changes under labels are changes of the sets.
 use mathlib.Core.Path.{_≡_, fun-ext, refl, sym, ap, subst, _∙_}
-use mathlib.Core.Bool.{Bool, true, false, cond}
 use mathlib.Core.List.{List, [], _∷_}
-use mathlib.Core.Logic.{_⊎_, inl, inr, ⊎-elim}
+use mathlib.Core.Logic.{_⊎_, ⊎-elim}
 use Prim.Native.Nat.{ℕ, _+_, _≤_, _<_}
 use native.Mathlib.Omega.{arith}
-use lib.Dec.{eqb}
 use lib.ListN.{length, getD, set}
 use Rattle.std.proofs.shelf.Tests.{cases-eq, cond-true, cond-false, eq-eqb, ne-eqb}
 use Rattle.std.specs.Vec.{made}
@@ -22,7 +20,6 @@ use Rattle.rows.specs.Labels.{Back}
 use Rattle.rows.specs.Rows.{ends-at, Rising, ranges}
 use Rattle.rows.specs.Tables.{Changed, Changed-if-it-fits}
 use Rattle.rows.specs.Meaning.{labelled}
-use Rattle.rows.proofs.Spots.{ranges-canonical}
 use Rattle.rows.proofs.Swaps.{last-written, first-written, not-written, one-owner}
 
 module _ (ls os : List ℕ) (to : Back ls os) where

@@ -1,13 +1,13 @@
 -- The rows between two places that a search has found, and what is put in their place.
 use mathlib.Core.Path.{_≡_, refl, sym, ap, subst, _∙_}
-use mathlib.Core.Bool.{Bool, true, false, not, _&&_, _||_}
-use mathlib.Core.List.{List, [], _∷_, _++_}
-use mathlib.Core.Logic.{_⊎_, inl, inr, ⊎-elim}
-use Prim.Native.Nat.{ℕ, suc, _+_, _-_, _*_, _/_, _^_, _≤_, _<_}
+use mathlib.Core.Bool.{Bool, true, false, not}
+use mathlib.Core.List.{List, [], _∷_}
+use mathlib.Core.Logic.{_⊎_, ⊎-elim}
+use Prim.Native.Nat.{ℕ, suc, _+_, _-_, _≤_, _<_}
 use native.Mathlib.Omega.{arith}
 use lib.ListN.{length, getD, take, drop, length-drop}
 use Rattle.std.specs.shelf.Lists.{All}
-use Rattle.std.proofs.shelf.Tests.{both-ways, cases-lt}
+use Rattle.std.proofs.shelf.Tests.{cases-lt}
 use Rattle.std.proofs.shelf.Ways.{tells}
 use Rattle.store.specs.Ids.{Lawful}
 use Rattle.store.specs.Ranges.{place, within}
@@ -15,7 +15,7 @@ use Rattle.std.proofs.shelf.Lists.{getD-take, getD-drop, drop-take, length-take
 use Rattle.std.proofs.shelf.Elements.{all-getD, all-take, all-drop}
 use Rattle.rows.specs.declared.row.Row.{Row}
 use Rattle.rows.specs.Rows.{spot, begins-at, ends-at, Fair, Rising}
-use Rattle.rows.proofs.Orders.{fair-place, from-row, up-to-row, rising-join, rising-take, rising-drop}
+use Rattle.rows.proofs.Orders.{fair-place, from-row, up-to-row}
 use Rattle.rows.proofs.Covers.{covers, covers-at, covers-between}
 
 pub same-test : (x y : Bool) → (x ≡ true → y ≡ true) → (y ≡ true → x ≡ true) → x ≡ y

@@ -1,8 +1,8 @@
 -- What halving finds: the rows that end, or begin, before a spot.
-use mathlib.Core.Path.{_≡_, refl, sym, ap, subst, _∙_}
+use mathlib.Core.Path.{_≡_, sym, ap, subst, _∙_}
 use mathlib.Core.List.{List, [], _∷_, _++_}
-use mathlib.Core.Logic.{_⊎_, inl, inr, ⊎-elim}
-use Prim.Native.Nat.{ℕ, zero, suc, _+_, _≤_, _<_}
+use mathlib.Core.Logic.{_⊎_, ⊎-elim}
+use Prim.Native.Nat.{ℕ, _+_, _≤_, _<_}
 use native.Mathlib.Omega.{arith}
 use lib.ListN.{length, getD, take, drop, length-drop}
 use Rattle.std.specs.shelf.Lists.{All}
@@ -10,7 +10,7 @@ use Rattle.std.proofs.shelf.Tests.{cases-lt}
 use Rattle.std.proofs.shelf.Lists.{getD-take, getD-drop, getD-default, length-take-le, drop-more, drop-all, take-more}
 use Rattle.std.proofs.shelf.Elements.{all-from-getD, all-weaker, all-append}
 use Rattle.rows.specs.declared.row.Row.{Row}
-use Rattle.rows.specs.Rows.{begins-at, ends-at, Fair, Rising}
+use Rattle.rows.specs.Rows.{begins-at, ends-at, Rising}
 use Rattle.rows.specs.declared.table.Table.{Table}
 use Rattle.rows.specs.Tables.{rows-of}
 use Rattle.rows.proofs.Orders.{begin-late, fair-place, later-row, rising-from, rising-take, rising-rest}

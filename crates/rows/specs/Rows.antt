@@ -1,8 +1,7 @@
 -- Rows in order on one line: what it is that the rows in use stand for.
-use mathlib.Core.Path.{_≡_}
-use mathlib.Core.Bool.{Bool, true, false, cond, _&&_}
+use mathlib.Core.Bool.{Bool, true, cond, _&&_}
 use mathlib.Core.List.{List, [], _∷_}
-use Prim.Native.Nat.{ℕ, _+_, _*_, _/_, _^_, _≤_, _<_}
+use Prim.Native.Nat.{ℕ, _+_, _*_, _^_, _≤_, _<_}
 use lib.Dec.{leb, ltb, eqb}
 use Rattle.store.specs.Ids.{replid, Lawful}
 use Rattle.store.specs.Ranges.{Span, place}

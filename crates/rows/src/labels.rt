@@ -1,7 +1,6 @@
 // Which label each set has: a set moves to another by their labels, and no row moves.
 ghost use mathlib.Core.Path.{_≡_};
 ghost use mathlib.Core.List.{[], _∷_};
-ghost use Prim.Native.Nat.{ℕ, _<_};
 ghost use lib.ListN.{length, getD, set as put};
 ghost use Rattle.store.specs.Sets.{number};
 ghost use Rattle.rows.specs.Labels.{Back};

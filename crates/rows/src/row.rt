@@ -1,6 +1,6 @@
 // A row of memory, and rows whose number a store may have.
 ghost use mathlib.Core.Path.{_≡_};
-ghost use Prim.Native.Nat.{ℕ, _≤_};
+ghost use Prim.Native.Nat.{_≤_};
 ghost use Rattle.std.specs.Of.Vec.{vec-len};
 ghost use Rattle.std.specs.Results.{Cases};
 ghost use Rattle.store.specs.Limits.{May-be-limit};

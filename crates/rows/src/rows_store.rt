@@ -1,6 +1,5 @@
 // The store in ordered rows.
 ghost use mathlib.Core.Path.{_≡_};
-ghost use Prim.Native.Nat.{ℕ};
 ghost use Rattle.std.specs.Of.Vec.{vec-len};
 ghost use Rattle.store.specs.Sets.{nothing};
 ghost use Rattle.rows.specs.Meaning.{meaning, limit-of};

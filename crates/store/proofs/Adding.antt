@@ -1,14 +1,13 @@
 -- A range added to a list of ranges.
-use mathlib.Core.Path.{_≡_, refl, sym, ap, _∙_}
-use mathlib.Core.Bool.{Bool, true, false, _||_}
+use mathlib.Core.Path.{_≡_, ap, _∙_}
+use mathlib.Core.Bool.{false, _||_}
 use mathlib.Core.List.{List, [], _∷_}
-use Prim.Native.Nat.{ℕ, _+_, _≤_, _<_, min, max}
+use Prim.Native.Nat.{ℕ, _+_, _≤_, min, max}
 use native.Mathlib.Omega.{arith}
-use lib.Dec.{leb, ltb}
 use Rattle.std.proofs.shelf.Tests.{ltb-true, ltb-false, cond-both}
 use Rattle.std.proofs.shelf.Ways.{tells}
 use Rattle.store.specs.Ids.{Lawful}
-use Rattle.store.specs.Ranges.{Span, place, apart, within, has, From, Canonical, with-range}
+use Rattle.store.specs.Ranges.{Span, place, apart, within, has, From, with-range}
 use Rattle.store.proofs.Members.{or-assoc, or-comm, weaker}
 
 -- two ranges that overlap or adjoin are one

@@ -1,13 +1,13 @@
 -- The number of ranges of a set, counted by the IDs that are in it while their predecessor of the same replica is not.
-use mathlib.Core.Path.{_≡_, fun-ext, refl, sym, ap, subst, _∙_}
-use mathlib.Core.Bool.{Bool, true, false, cond, not, _&&_, _||_}
+use mathlib.Core.Path.{_≡_, fun-ext, refl, sym, ap, _∙_}
+use mathlib.Core.Bool.{true, false, cond, not, _&&_, _||_}
 use mathlib.Core.List.{List, [], _∷_}
 use mathlib.Core.Logic.{_⊎_, inl, inr, ⊎-elim}
-use Prim.Native.Nat.{ℕ, zero, suc, _+_, _-_, _/_, _%_, _^_, _≤_, _<_}
+use Prim.Native.Nat.{ℕ, zero, suc, _+_, _-_, _%_, _^_, _≤_, _<_}
 use native.Mathlib.Omega.{arith}
-use lib.Dec.{leb, ltb, eqb}
+use lib.Dec.{ltb, eqb}
 use lib.ListN.{length}
-use Rattle.std.proofs.shelf.Tests.{lt-ltb, le-ltb, eq-eqb, ne-eqb, cases-eq, cases-order, cases-lt, cases-bool, both-ways, cond-true, cond-false, cond-both, eqb-true, eqb-false, and-parts, and-from, not-true, not-from-false, or-cases, or-parts, or-left}
+use Rattle.std.proofs.shelf.Tests.{lt-ltb, le-ltb, eq-eqb, ne-eqb, cases-eq, cases-lt, cases-bool, both-ways, cond-true, cond-false, cond-both, and-parts, and-from, not-true, not-from-false, or-cases, or-parts, or-left}
 use Rattle.std.specs.shelf.Lists.{All}
 use Rattle.std.proofs.shelf.Ways.{tells}
 use Rattle.store.specs.Ids.{Lawful}

@@ -1,15 +1,13 @@
 -- What is in a list of ranges, and that its members determine a canonical list.
 use mathlib.Core.Path.{_≡_, refl, sym, ap, _∙_}
-use mathlib.Core.Bool.{Bool, true, false, not, _&&_, _||_}
+use mathlib.Core.Bool.{Bool, true, false, not, _||_}
 use mathlib.Core.List.{List, [], _∷_, _++_}
-use mathlib.Core.Logic.{_⊎_, inl, inr, ⊎-elim}
+use mathlib.Core.Logic.{_⊎_, ⊎-elim}
 use Prim.Native.Nat.{ℕ, _+_, _/_, _^_, _≤_, _<_}
 use native.Mathlib.Omega.{arith}
-use lib.Dec.{leb, ltb}
 use Rattle.std.proofs.shelf.Tests.{cases-order, cases-lt, both-ways, or-cases}
 use Rattle.std.proofs.shelf.Ways.{tells}
-use Rattle.store.specs.Ids.{Lawful}
-use Rattle.store.specs.Ranges.{Span, place, within, has, From, Canonical}
+use Rattle.store.specs.Ranges.{Span, place, within, has, From}
 
 pub or-assoc : (x y z : Bool) → (x || (y || z)) ≡ ((x || y) || z)
 or-assoc true y z = refl

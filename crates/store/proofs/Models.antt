@@ -1,17 +1,15 @@
 -- One set of the eleven changed: the others, the total and the members.
 use mathlib.Core.Path.{_≡_, refl, sym, ap, _∙_}
-use mathlib.Core.Bool.{Bool, true, false, cond, not, _&&_, _||_}
 use mathlib.Core.List.{List, []}
-use mathlib.Core.Logic.{_⊎_, inl, inr, ⊎-elim}
+use mathlib.Core.Logic.{_⊎_, ⊎-elim}
 use Prim.Native.Nat.{ℕ, _+_, _≤_, _<_}
 use native.Mathlib.Omega.{arith}
-use lib.Dec.{eqb, lit<}
+use lib.Dec.{lit<}
 use Rattle.std.specs.declared.option.Option.the-variants.{Some, None}
 use lib.ListN.{length}
 use Rattle.std.proofs.shelf.Tests.{eq-eqb, ne-eqb, cases-eq, cond-true, cond-false}
 use Rattle.std.proofs.shelf.Ways.{tells}
-use Rattle.store.specs.Ids.{Lawful}
-use Rattle.store.specs.Ranges.{Span, has, within, Canonical, with-range, without-range}
+use Rattle.store.specs.Ranges.{Span, has, Canonical}
 use Rattle.store.specs.Sets.{Model, nothing, number, numbered, with-set, total}
 use Rattle.store.specs.Changes.{put-into, taken-from, moved, cleared, Added, Removed, Emptied, Moved}
 use Rattle.store.specs.declared.sets.SetName.{SetName}

@@ -1,17 +1,17 @@
 -- What the lowest range not below a number is among the members.
-use mathlib.Core.Path.{_≡_, refl, sym, ap, _∙_}
-use mathlib.Core.Bool.{Bool, true, false, cond, _||_}
+use mathlib.Core.Path.{_≡_, refl, sym, _∙_}
+use mathlib.Core.Bool.{false}
 use mathlib.Core.List.{List, [], _∷_}
-use mathlib.Core.Logic.{_⊎_, inl, inr, ⊎-elim}
-use Prim.Native.Nat.{ℕ, _+_, _-_, _/_, _%_, _^_, _≤_, _<_}
+use mathlib.Core.Logic.{_⊎_, ⊎-elim}
+use Prim.Native.Nat.{ℕ, _+_, _-_, _≤_, _<_}
 use native.Mathlib.Omega.{arith}
-use lib.Dec.{leb, ltb, eqb}
+use lib.Dec.{ltb}
 use Rattle.std.specs.Options.{Cases}
 use Rattle.std.specs.declared.option.Option.{Option}
 use Rattle.std.specs.declared.option.Option.the-variants.{Some, None}
-use Rattle.std.proofs.shelf.Tests.{both-ways, or-left, or-right, or-from, cases-eq, cases-lt, eq-eqb, ne-eqb, ltb-true, ltb-false, cond-both, cond-true, cond-false}
+use Rattle.std.proofs.shelf.Tests.{or-left, or-right, or-from, cases-eq, eq-eqb, ne-eqb, ltb-true, ltb-false, cond-both, cond-true, cond-false}
 use Rattle.std.proofs.shelf.Ways.{tells}
-use Rattle.store.specs.Ids.{replid, counter, Lawful}
+use Rattle.store.specs.Ids.{counter, Lawful}
 use Rattle.store.specs.Ranges.{Span, place, within, has, From, next-range, goes-before, Lowest-not-below, Lowest-or-none}
 use Rattle.store.proofs.Members.{none-below, none-after-first}
 

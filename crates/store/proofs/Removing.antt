@@ -1,10 +1,10 @@
 -- A range removed from a list of ranges.
-use mathlib.Core.Path.{_≡_, refl, sym, ap, _∙_}
+use mathlib.Core.Path.{_≡_, refl, ap, _∙_}
 use mathlib.Core.Bool.{Bool, true, false, not, _&&_, _||_}
 use mathlib.Core.List.{List, [], _∷_, _++_}
 use Prim.Native.Nat.{ℕ, _+_, _-_, _≤_, _<_, min, max}
 use native.Mathlib.Omega.{arith}
-use lib.Dec.{leb, ltb}
+use lib.Dec.{ltb}
 use Rattle.std.proofs.shelf.Tests.{ltb-true, ltb-false, cond-both}
 use Rattle.std.proofs.shelf.Ways.{tells}
 use Rattle.store.specs.Ids.{Lawful}

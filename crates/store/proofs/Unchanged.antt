@@ -2,12 +2,12 @@
 use mathlib.Core.Path.{_≡_, refl, sym, ap, _∙_}
 use mathlib.Core.Bool.{Bool, true, false, cond, not, _&&_, _||_}
 use mathlib.Core.List.{List, [], _∷_, _++_}
-use mathlib.Core.Logic.{_⊎_, inl, inr, ⊎-elim}
+use mathlib.Core.Logic.{_⊎_, ⊎-elim}
 use Prim.Native.Nat.{ℕ, _+_, _-_, _≤_, _<_, min, max}
 use native.Mathlib.Omega.{arith}
 use lib.Dec.{ltb}
 use lib.ListN.{length, length-append}
-use Rattle.std.proofs.shelf.Tests.{cond-both, cond-true, cond-false, cases-lt, le-ltb, ltb-true}
+use Rattle.std.proofs.shelf.Tests.{cond-both, cond-false, cases-lt, le-ltb}
 use Rattle.store.specs.Ids.{Lawful}
 use Rattle.store.specs.Ranges.{Span, place, apart, From, Canonical, has, within, with-range, without-range, part-below, part-above}
 use Rattle.store.proofs.Adding.{adding-keeps-order, adding-members}

@@ -1,5 +1,4 @@
 -- The list of refusals, as far as the store layer makes them: the one place that gives a case its number and layer.
-use Rattle.store.specs.declared.refusal.Layer.{Layer}
 use Rattle.store.specs.declared.refusal.Layer.the-variants.{Store}
 use Rattle.store.specs.declared.refusal.Refusal.{Refusal}
 use Rattle.store.specs.declared.refusal.StoreRefusal.{StoreRefusal}

@@ -1,6 +1,6 @@
 // How many ranges a store may have room for.
 ghost use mathlib.Core.Path.{_≡_};
-ghost use Prim.Native.Nat.{ℕ, _≤_};
+ghost use Prim.Native.Nat.{_≤_};
 ghost use Rattle.std.specs.Results.{Cases};
 ghost use Rattle.store.specs.Limits.{May-be-limit};
 ghost use Rattle.store.specs.Refusals.{listed, wrong-row-count};

@@ -1,6 +1,6 @@
 // A range of IDs of one replica: no other range can be made.
 ghost use mathlib.Core.Path.{_≡_};
-ghost use Prim.Native.Nat.{ℕ, _/_, _^_, _≤_, _<_};
+ghost use Prim.Native.Nat.{_/_, _^_, _≤_, _<_};
 ghost use Rattle.std.specs.Options.{Cases};
 ghost use Rattle.store.specs.Ids.{Lawful, replid};
 

@@ -4,11 +4,10 @@ use mathlib.Core.Bool.{cond}
 use Prim.Native.Nat.{ℕ, _+_, _-_, _^_, min}
 use native.Mathlib.Omega.{arith}
 use lib.Dec.{ltb}
-use mathlib.Core.List.{List, [], _∷_, _++_}
+use mathlib.Core.List.{List, [], _∷_}
 use lib.ListN.{take, drop}
 use Rattle.std.proofs.shelf.Tests.{lt-ltb, le-ltb, cond-true, cond-false}
 use Rattle.rows.specs.declared.row.Row.{Row}
-use Rattle.rows.specs.Tables.{maybe}
 use Rattle.rows.proofs.Finds.{chosen}
 use Rattle.rows.proofs.change.left_over.Needs as need
 use Rattle.rows.proofs.change.left_over.Needs.{Joined-high-last, then-first-low, else-first-low, then-high-last, else-high-last}

@@ -1,5 +1,5 @@
 -- The rows behind the part are moved if need be, and then the part is written over.
-use mathlib.Core.Path.{_≡_, sym, ap, subst, _∙_}
+use mathlib.Core.Path.{_≡_, ap, _∙_}
 use Prim.Native.Nat.{_+_, _-_}
 use lib.ListN.{length, take, drop}
 use native.Mathlib.Omega.{arith}

@@ -1,5 +1,4 @@
 -- The law that the contract of `maximal_ranges_are_the_fewest` states.
-use Prim.Native.Nat.{_^_}
 use Rattle.store.proofs.Counting.{fewest}
 use Rattle.store.proofs.laws.maximal_ranges_are_the_fewest.Needs as need
 

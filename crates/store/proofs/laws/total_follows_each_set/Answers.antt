@@ -1,5 +1,4 @@
 -- The law that the contract of `total_follows_each_set` states.
-use mathlib.Core.Path.{refl}
 use Rattle.store.proofs.Models.{total-nothing, total-follows}
 use Rattle.store.proofs.laws.total_follows_each_set.Needs as need
 

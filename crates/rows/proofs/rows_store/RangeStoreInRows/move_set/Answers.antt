@@ -1,6 +1,5 @@
 -- The target's rows are taken out, and the two labels change places.
-use mathlib.Core.Path.{_≡_, sym, _∙_}
-use native.Mathlib.Omega.{arith}
+use mathlib.Core.Path.{sym, _∙_}
 use Rattle.store.proofs.Models.{moved-members}
 use Rattle.rows.specs.Meaning.{meaning}
 use Rattle.rows.specs.Tables.{rows-of}

@@ -4,8 +4,7 @@ use Rattle.std.specs.Of.Vec.{vec-len}
 use Rattle.store.specs.Ranges.{without-range}
 use Rattle.rows.specs.Meaning.{meaning}
 use Rattle.rows.specs.Tables.{rows-of}
-use Rattle.rows.proofs.Searches.{in-order, in-use}
-use Rattle.rows.proofs.Spots.{ranges-canonical}
+use Rattle.rows.proofs.Searches.{in-use}
 use Rattle.rows.proofs.Meanings.{granted, granted-removed}
 use Rattle.rows.proofs.rows_store.RangeStoreInRows.take.Needs as need
 

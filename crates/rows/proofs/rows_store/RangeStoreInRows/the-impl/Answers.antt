@@ -1,5 +1,4 @@
 -- What always holds of a store in rows.
-use mathlib.Core.Path.{_∙_}
 use native.Mathlib.Omega.{arith}
 use Rattle.rows.proofs.Searches.{in-order, in-use}
 use Rattle.rows.proofs.Spots.{ranges-canonical}

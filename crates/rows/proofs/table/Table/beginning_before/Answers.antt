@@ -1,5 +1,4 @@
 -- The row that the spot may stand in has begun before it or not.
-use mathlib.Core.Path.{_≡_}
 use native.Mathlib.Omega.{arith}
 use Rattle.rows.proofs.Searches.{in-use, begun, none-later, one-more-begun, ends-late, rest-later, all-later}
 use Rattle.rows.proofs.table.Table.beginning_before.Needs as need

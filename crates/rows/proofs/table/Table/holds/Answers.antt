@@ -1,5 +1,4 @@
 -- The ID is in the set exactly if the next range from it on begins at it or before.
-use mathlib.Core.Path.{sym}
 use Rattle.rows.proofs.Searches.{in-order}
 use Rattle.rows.proofs.Spots.{ranges-canonical, held-in, held-none}
 use Rattle.rows.proofs.table.Table.holds.Needs as need

@@ -1,6 +1,6 @@
 -- The first and the last of the rows that are joined, as they stand in the table.
 use mathlib.Core.Path.{_≡_, sym, ap, _∙_}
-use Prim.Native.Nat.{ℕ, _-_, _<_, min, max}
+use Prim.Native.Nat.{ℕ, _-_, min, max}
 use native.Mathlib.Omega.{arith}
 use Rattle.rows.specs.declared.row.Row.{Row}
 use Rattle.rows.proofs.Searches.{read}

@@ -1,5 +1,5 @@
 -- The rows that the range touches are those between the two searches.
-use mathlib.Core.Path.{sym, ap, _∙_}
+use mathlib.Core.Path.{ap, _∙_}
 use mathlib.Core.List.{_++_, _∷_, []}
 use Prim.Native.Nat.{_+_, _-_}
 use native.Mathlib.Omega.{arith}

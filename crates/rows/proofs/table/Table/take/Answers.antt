@@ -1,15 +1,15 @@
 -- The rows that the range overlaps are those between the two searches.
-use mathlib.Core.Path.{refl, sym, ap, subst, _∙_}
+use mathlib.Core.Path.{refl, ap, _∙_}
 use mathlib.Core.List.{_++_}
 use Prim.Native.Nat.{_+_, _-_}
 use native.Mathlib.Omega.{arith}
-use lib.ListN.{length, take, drop, length-take, length-drop}
+use lib.ListN.{take, drop, length-take}
 use Rattle.store.specs.Ids.{Lawful}
 use Rattle.store.specs.Ranges.{without-range}
 use Rattle.rows.specs.Rows.{spot, ranges}
 use Rattle.rows.specs.Tables.{rows-of, Changed}
 use Rattle.rows.proofs.Searches.{blank, in-use, read}
-use Rattle.rows.proofs.Finds.{answered, Found, found-at, in-turn, take-none, take-changes}
+use Rattle.rows.proofs.Finds.{answered, Found, found-at, take-none, take-changes}
 use Rattle.rows.proofs.table.Table.take.Needs as need
 use Rattle.rows.proofs.table.Table.take.Needs.{After-beginning-before-to, After-left-over-left}
 
