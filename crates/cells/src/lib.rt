@@ -1,4 +1,6 @@
 // A store in cells linked by their numbers, in memory that the caller hands over.
+#![tactic(auto)]
+
 mod cell;
 mod cells_store;
 mod chains;

@@ -1,4 +1,6 @@
 // Reads a script of store calls on standard input, one to a line, and prints each with its answer.
+#![tactic(auto)]
+
 mod answer;
 mod call;
 mod perform;

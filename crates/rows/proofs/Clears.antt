@@ -1,6 +1,6 @@
--- All rows under one label taken out.
+-- AllByRecursion rows under one label taken out.
 use Rattle.std.proofs.Common.{◌≡◌, ℕ, ◌+◌, ◌-◌, ◌^◌, ◌<◌, ◌≤◌, false, ◌||◌, ◌⊎◌, List, [], ◌++◌, take, drop, sym, ap, ◌∙◌, subst, inl, inr, ⊎_elim, arith}
-use Rattle.std.specs.List.{AllByRecursion as All}
+use Rattle.std.specs.List.{AllByRecursion}
 use Rattle.std.proofs.lemmas.Bool.{cases_lt}
 use Rattle.std.proofs.lemmas.List.{drop-take}
 use Rattle.std.proofs.ByRecursion.{All-take, All-drop}
@@ -13,15 +13,15 @@ use Rattle.rows.proofs.Middles.{all_both}
 
 -- what the two searches of a clear find
 module _ (rs : List Row) (g i j : ℕ) (f : Rising 0 rs) (up : i ≤ j)
-    (before : All (λ r. ends_at r < spot g 0) (take i rs)) (from : All (λ r. spot g 0 ≤ ends_at r) (drop i rs))
-    (to : All (λ r. ends_at r < spot (g + 1) 0) (take j rs)) (behind : All (λ r. spot (g + 1) 0 ≤ ends_at r) (drop j rs)) where
+    (before : AllByRecursion (λ r. ends_at r < spot g 0) (take i rs)) (from : AllByRecursion (λ r. spot g 0 ≤ ends_at r) (drop i rs))
+    (to : AllByRecursion (λ r. ends_at r < spot (g + 1) 0) (take j rs)) (behind : AllByRecursion (λ r. spot (g + 1) 0 ≤ ends_at r) (drop j rs)) where
   abbrev after : List Row
   after = take i rs ++ ([] ++ drop j rs)
 
-  first_fair : All Fair (take i rs)
+  first_fair : AllByRecursion Fair (take i rs)
   first_fair = All-take Fair i rs (fair_rows 0 rs f)
 
-  last_fair : All Fair (drop j rs)
+  last_fair : AllByRecursion Fair (drop j rs)
   last_fair = All-drop Fair j rs (fair_rows 0 rs f)
 
   after_rises : Rising 0 after
@@ -40,10 +40,10 @@ module _ (rs : List Row) (g i j : ℕ) (f : Rising 0 rs) (up : i ≤ j)
   middle_none t id ne h =
       let m = j - i in
       let is : i + m ≡ j = omega arith in
-      let low : All (λ r. spot g 0 ≤ ends_at r) (drop i (take j rs)) = subst (All (λ r. spot g 0 ≤ ends_at r)) (sym (drop-take i m rs) ∙ ap (λ n. drop i (take n rs)) is) (All-take _ m (drop i rs) from) in
-      let high : All (λ r. ends_at r < spot (g + 1) 0) (drop i (take j rs)) = All-drop _ i (take j rs) to in
-      let fair : All Fair (drop i (take j rs)) = All-drop Fair i (take j rs) (All-take Fair j rs (fair_rows 0 rs f)) in
-      let one : All (λ r. (r.label ≡ g) × Fair r) (drop i (take j rs)) = all_both (λ r. spot g 0 ≤ ends_at r) (λ r. (ends_at r < spot (g + 1) 0) × Fair r) (λ r. (r.label ≡ g) × Fair r) (λ r b k. (omega arith, k.1)) (drop i (take j rs)) low (all_both (λ r. ends_at r < spot (g + 1) 0) Fair (λ r. (ends_at r < spot (g + 1) 0) × Fair r) (λ r b k. (b, k)) (drop i (take j rs)) high fair) in
+      let low : AllByRecursion (λ r. spot g 0 ≤ ends_at r) (drop i (take j rs)) = subst (AllByRecursion (λ r. spot g 0 ≤ ends_at r)) (sym (drop-take i m rs) ∙ ap (λ n. drop i (take n rs)) is) (All-take _ m (drop i rs) from) in
+      let high : AllByRecursion (λ r. ends_at r < spot (g + 1) 0) (drop i (take j rs)) = All-drop _ i (take j rs) to in
+      let fair : AllByRecursion Fair (drop i (take j rs)) = All-drop Fair i (take j rs) (All-take Fair j rs (fair_rows 0 rs f)) in
+      let one : AllByRecursion (λ r. (r.label ≡ g) × Fair r) (drop i (take j rs)) = all_both (λ r. spot g 0 ≤ ends_at r) (λ r. (ends_at r < spot (g + 1) 0) × Fair r) (λ r. (r.label ≡ g) × Fair r) (λ r b k. (omega arith, k.1)) (drop i (take j rs)) low (all_both (λ r. ends_at r < spot (g + 1) 0) Fair (λ r. (ends_at r < spot (g + 1) 0) × Fair r) (λ r b k. (b, k)) (drop i (take j rs)) high fair) in
       covers_none (spot t id) (drop i (take j rs)) (all_both (λ r. (r.label ≡ g) × Fair r) Fair (λ r. (ends_at r < spot t id) ⊎ (spot t id < begins_at r)) (λ r b k. ⊎_elim (λ (lt : t < g). inr (omega (arith, b, k))) (λ ge. inl (omega (arith, b, k))) (cases_lt t g)) (drop i (take j rs)) one fair)
 
   pub cleared : Changed rs g [] after

@@ -1,6 +1,6 @@
 -- The spots that rows cover on the line of all labels and IDs, and that these alone decide what the rows stand for.
 use Rattle.std.proofs.Common.{◌≡◌, ℕ, zero, suc, ◌+◌, ◌-◌, ◌^◌, ◌<◌, ◌≤◌, Bool, true, false, cond, ◌&&◌, ◌||◌, eqb, ◌⊎◌, List, [], ◌∷◌, ◌++◌, length, get_or, take, drop, sym, refl, ap, ◌∙◌, inl, inr, ⊎_elim, arith, take-append-drop}
-use Rattle.std.specs.List.{AllByRecursion as All}
+use Rattle.std.specs.List.{AllByRecursion}
 use Rattle.std.proofs.lemmas.Bool.{both_ways, cases_Bool, cases_lt, or_cases, or_left, or_right, eq-eqb, ne_eqb, eqb-true, eqb-false}
 use Rattle.std.proofs.lemmas.Bool.Decides.{nat_tests}
 use Rattle.std.proofs.lemmas.List.{take-take}
@@ -71,14 +71,14 @@ changed rs qs s wanted f g c here others = record {
 }
 
 -- rows cover nothing outside the spots between which they all stand
-pub covers_between : (a b p : ℕ) (rs : List Row) → All (λ r. a ≤ begins_at r) rs → All (λ r. ends_at r ≤ b) rs → covers rs p ≡ true → (a ≤ p) × (p ≤ b)
+pub covers_between : (a b p : ℕ) (rs : List Row) → AllByRecursion (λ r. a ≤ begins_at r) rs → AllByRecursion (λ r. ends_at r ≤ b) rs → covers rs p ≡ true → (a ≤ p) × (p ≤ b)
 covers_between a b p [] f g h = absurd (both_ways false refl h)
 covers_between a b p (r ∷ rs) f g h = ⊎_elim
     (λ (w : within (begins_at r) (ends_at r) p ≡ true). let k : (begins_at r ≤ p) × (p ≤ ends_at r) = grind (arith, nat_tests) in omega (arith, f.0, g.0))
     (λ w. covers_between a b p rs f.1 g.1 w)
     (or_cases (within (begins_at r) (ends_at r) p) (covers rs p) h)
 
-pub covers_none : (p : ℕ) (rs : List Row) → All (λ r. (ends_at r < p) ⊎ (p < begins_at r)) rs → covers rs p ≡ false
+pub covers_none : (p : ℕ) (rs : List Row) → AllByRecursion (λ r. (ends_at r < p) ⊎ (p < begins_at r)) rs → covers rs p ≡ false
 covers_none p [] f = refl
 covers_none p (r ∷ rs) f =
     let out : within (begins_at r) (ends_at r) p ≡ false = ⊎_elim (λ lt. grind (arith, nat_tests)) (λ gt. grind (arith, nat_tests)) f.0 in

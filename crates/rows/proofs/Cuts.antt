@@ -1,6 +1,6 @@
 -- A range taken out of rows: what it leaves of those that it overlaps.
 use Rattle.std.proofs.Common.{◌≡◌, ℕ, suc, ◌+◌, ◌-◌, ◌<◌, ◌≤◌, Bool, true, false, not, ◌&&◌, ◌||◌, eqb, ltb, ◌⊎◌, List, [], ◌∷◌, ◌++◌, length, get_or, take, drop, sym, refl, ap, ◌∙◌, subst, inl, inr, ⊎_elim, append_assoc, arith, take-append-drop}
-use Rattle.std.specs.List.{AllByRecursion as All}
+use Rattle.std.specs.List.{AllByRecursion}
 use Rattle.std.proofs.lemmas.Bool.{both_ways, cases_lt, or_cases, or_left, or_right, and_parts, and_from, not-true, not_from_false, ne_eqb, eq-eqb, cond_both, lt-ltb, ltb-true}
 use Rattle.std.proofs.lemmas.Bool.Decides.{nat_tests}
 use Rattle.std.proofs.lemmas.List.{drop_all, length-take-le}
@@ -23,7 +23,7 @@ and_true false = refl
 
 -- rows in the place of those from i to j, which cover their spots but for those of low..high
 module _ (rs : List Row) (g lo hi i j : ℕ) (f : Rising 0 rs) (small : g < 11) (law : Lawful lo hi) (up : i ≤ j) (ns : List Row)
-    (before : All (λ r. ends_at r < spot g lo) (take i rs)) (behind : All (λ r. spot g hi + 1 ≤ begins_at r) (drop j rs))
+    (before : AllByRecursion (λ r. ends_at r < spot g lo) (take i rs)) (behind : AllByRecursion (λ r. spot g hi + 1 ≤ begins_at r) (drop j rs))
     (rises : Rising 0 (take i rs ++ (ns ++ drop j rs)))
     (means : (p : ℕ) → covers ns p ≡ (covers (drop i (take j rs)) p && not (within (spot g lo) (spot g hi) p))) where
   abbrev after : List Row
@@ -64,8 +64,8 @@ maybe_covers false r p = refl
 
 -- what the two searches of a take find
 module _ (rs : List Row) (g lo hi i j : ℕ) (d : Row) (f : Rising 0 rs) (small : g < 11) (law : Lawful lo hi) (lj : j ≤ length rs) (up : i ≤ j)
-    (before : All (λ r. ends_at r < spot g lo) (take i rs)) (after : All (λ r. spot g lo ≤ ends_at r) (drop i rs))
-    (begun : All (λ r. begins_at r < spot g hi + 1) (take j rs)) (behind : All (λ r. spot g hi + 1 ≤ begins_at r) (drop j rs)) where
+    (before : AllByRecursion (λ r. ends_at r < spot g lo) (take i rs)) (after : AllByRecursion (λ r. spot g lo ≤ ends_at r) (drop i rs))
+    (begun : AllByRecursion (λ r. begins_at r < spot g hi + 1) (take j rs)) (behind : AllByRecursion (λ r. spot g hi + 1 ≤ begins_at r) (drop j rs)) where
   -- no row is touched
   pub untouched : j ≤ i → Changed rs g (without_range lo hi (ranges g rs)) rs
   untouched le =
@@ -111,8 +111,8 @@ module _ (rs : List Row) (g lo hi i j : ℕ) (d : Row) (f : Rising 0 rs) (small 
     upper_ends : hi < last.high → (begins_at upper ≡ spot g hi + 1) × (ends_at upper ≡ ends_at last) × Fair upper
     upper_ends h = let e = u h in (omega (arith, last_label, last_fair, last_overlaps), omega (arith, last_label), (small, omega (arith, last_label, last_fair, last_overlaps)))
 
-    behind_last : All (λ r. ends_at last + 2 ≤ begins_at r) (drop j rs)
-    behind_last = let js : suc (j - 1) ≡ j = omega arith in subst (λ n. All (λ r. ends_at last + 2 ≤ begins_at r) (drop n rs)) js (behind_row 0 rs (j - 1) d f (omega arith))
+    behind_last : AllByRecursion (λ r. ends_at last + 2 ≤ begins_at r) (drop j rs)
+    behind_last = let js : suc (j - 1) ≡ j = omega arith in subst (λ n. AllByRecursion (λ r. ends_at last + 2 ≤ begins_at r) (drop n rs)) js (behind_row 0 rs (j - 1) d f (omega arith))
 
     -- the part above and the rows behind rise from any spot that is not past the range
     upper_rises : (m : ℕ) → m ≤ spot g hi + 1 → Rising m (maybe (ltb hi last.high) upper ++ drop j rs)

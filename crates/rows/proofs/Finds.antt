@@ -1,6 +1,6 @@
 -- What the searches of a change find in a table, and that what is then put in its place is what was asked for.
 use Rattle.std.proofs.Common.{◌≡◌, ℕ, ◌+◌, ◌-◌, ◌^◌, ◌<◌, ◌≤◌, min, max, Bool, true, false, cond, ltb, ◌⊎◌, List, [], ◌∷◌, ◌++◌, length, get_or, take, drop, Ok, Err, Result, sym, refl, ap, ◌∙◌, subst, ⊎_elim, arith, MatchResult}
-use Rattle.std.specs.List.{AllByRecursion as All}
+use Rattle.std.specs.List.{AllByRecursion}
 use Rattle.std.proofs.lemmas.Bool.{cases_lt}
 use Rattle.store.specs.Ids.{Lawful}
 use Rattle.store.specs.Ranges.{Span, with_range, without_range}
@@ -28,10 +28,10 @@ answered limit before after wanted g spans (Err e) h changes = (h.0, h.1, (wante
 pub record Found (t : Table) (at to i j : ℕ) : Type 0 where
   pub i_inside : i ≤ length (rows_of t)
   pub j_inside : j ≤ length (rows_of t)
-  pub ended : All (λ r. ends_at r < at) (take i (rows_of t))
-  pub not_ended : All (λ r. at ≤ ends_at r) (drop i (rows_of t))
-  pub begun : All (λ r. begins_at r < to) (take j (rows_of t))
-  pub not_begun : All (λ r. to ≤ begins_at r) (drop j (rows_of t))
+  pub ended : AllByRecursion (λ r. ends_at r < at) (take i (rows_of t))
+  pub not_ended : AllByRecursion (λ r. at ≤ ends_at r) (drop i (rows_of t))
+  pub begun : AllByRecursion (λ r. begins_at r < to) (take j (rows_of t))
+  pub not_begun : AllByRecursion (λ r. to ≤ begins_at r) (drop j (rows_of t))
 
 pub found_at : (t : Table) (at at' to to' i j : ℕ) → at ≡ at' → to ≡ to' → Found t at to i j → Found t at' to' i j
 found_at t at at' to to' i j p q w = subst (λ x. Found t x to' i j) p (subst (λ x. Found t at x i j) q w)
@@ -81,20 +81,20 @@ chosen b c start end x y p q = ap (λ n. take (n - start) (drop start (x ∷ y �
 pub record ClearedBetween (t : Table) (g i j : ℕ) : Type 0 where
   pub i_inside : i ≤ length (rows_of t)
   pub j_inside : j ≤ length (rows_of t)
-  pub before : All (λ r. ends_at r < spot g 0) (take i (rows_of t))
-  pub from : All (λ r. spot g 0 ≤ ends_at r) (drop i (rows_of t))
-  pub to : All (λ r. ends_at r < spot (g + 1) 0) (take j (rows_of t))
-  pub behind : All (λ r. spot (g + 1) 0 ≤ ends_at r) (drop j (rows_of t))
+  pub before : AllByRecursion (λ r. ends_at r < spot g 0) (take i (rows_of t))
+  pub from : AllByRecursion (λ r. spot g 0 ≤ ends_at r) (drop i (rows_of t))
+  pub to : AllByRecursion (λ r. ends_at r < spot (g + 1) 0) (take j (rows_of t))
+  pub behind : AllByRecursion (λ r. spot (g + 1) 0 ≤ ends_at r) (drop j (rows_of t))
 
 pub cleared_between_at : (t : Table) (g i j x y : ℕ) → x ≡ spot g 0 → y ≡ spot (g + 1) 0 → i ≤ length (rows_of t) → j ≤ length (rows_of t)
-    → All (λ r. ends_at r < x) (take i (rows_of t)) → All (λ r. x ≤ ends_at r) (drop i (rows_of t)) → All (λ r. ends_at r < y) (take j (rows_of t)) → All (λ r. y ≤ ends_at r) (drop j (rows_of t)) → ClearedBetween t g i j
+    → AllByRecursion (λ r. ends_at r < x) (take i (rows_of t)) → AllByRecursion (λ r. x ≤ ends_at r) (drop i (rows_of t)) → AllByRecursion (λ r. ends_at r < y) (take j (rows_of t)) → AllByRecursion (λ r. y ≤ ends_at r) (drop j (rows_of t)) → ClearedBetween t g i j
 cleared_between_at t g i j x y p q li lj a b c d = record {
   i_inside = li;
   j_inside = lj;
-  before = subst (λ z. All (λ r. ends_at r < z) (take i (rows_of t))) p a;
-  from = subst (λ z. All (λ r. z ≤ ends_at r) (drop i (rows_of t))) p b;
-  to = subst (λ z. All (λ r. ends_at r < z) (take j (rows_of t))) q c;
-  behind = subst (λ z. All (λ r. z ≤ ends_at r) (drop j (rows_of t))) q d;
+  before = subst (λ z. AllByRecursion (λ r. ends_at r < z) (take i (rows_of t))) p a;
+  from = subst (λ z. AllByRecursion (λ r. z ≤ ends_at r) (drop i (rows_of t))) p b;
+  to = subst (λ z. AllByRecursion (λ r. ends_at r < z) (take j (rows_of t))) q c;
+  behind = subst (λ z. AllByRecursion (λ r. z ≤ ends_at r) (drop j (rows_of t))) q d;
 }
 
 pub clear_turn : (t : Table) (g i j : ℕ) → ClearedBetween t g i j → i ≤ j

@@ -1,6 +1,6 @@
 -- A range put into rows: those that it touches become one row with it.
 use Rattle.std.proofs.Common.{◌≡◌, ℕ, suc, ◌+◌, ◌-◌, ◌<◌, ◌≤◌, min, max, Bool, true, false, ◌&&◌, ◌||◌, eqb, ◌⊎◌, List, [], ◌∷◌, ◌++◌, length, get_or, take, drop, sym, refl, ap, ◌∙◌, subst, inl, inr, ⊎_elim, arith}
-use Rattle.std.specs.List.{AllByRecursion as All}
+use Rattle.std.specs.List.{AllByRecursion}
 use Rattle.std.proofs.lemmas.Bool.{cases_lt, or_cases, or_left, or_right, ne_eqb, eq-eqb}
 use Rattle.std.proofs.ByRecursion.{All-weaker}
 use Rattle.std.proofs.lemmas.List.{drop_all, length-take-le}
@@ -18,7 +18,7 @@ use Rattle.rows.proofs.Middles.{same_test, all_both, near_label, below_place, fr
 
 -- a row in the place of the rows from i to j, which covers their spots and those of low..high
 module _ (rs : List Row) (g lo hi i j : ℕ) (f : Rising 0 rs) (small : g < 11) (law : Lawful lo hi) (up : i ≤ j) (row : Row) (fair : Fair row)
-    (before : All (λ r. ends_at r + 2 ≤ begins_at row) (take i rs)) (behind : All (λ r. ends_at row + 2 ≤ begins_at r) (drop j rs))
+    (before : AllByRecursion (λ r. ends_at r + 2 ≤ begins_at row) (take i rs)) (behind : AllByRecursion (λ r. ends_at row + 2 ≤ begins_at r) (drop j rs))
     (means : (p : ℕ) → within (begins_at row) (ends_at row) p ≡ (covers (drop i (take j rs)) p || within (spot g lo) (spot g hi) p)) where
   abbrev after : List Row
   after = take i rs ++ (row ∷ [] ++ drop j rs)
@@ -53,8 +53,8 @@ module _ (rs : List Row) (g lo hi i j : ℕ) (f : Rising 0 rs) (small : g < 11) 
 
 -- what the two searches of a put find
 module _ (rs : List Row) (g lo hi i j : ℕ) (d : Row) (f : Rising 0 rs) (small : g < 11) (law : Lawful lo hi) (li : i ≤ length rs) (lj : j ≤ length rs) (up : i ≤ j)
-    (before : All (λ r. ends_at r < spot g lo - 1) (take i rs)) (touch : All (λ r. spot g lo - 1 ≤ ends_at r) (drop i rs))
-    (touched : All (λ r. begins_at r < spot g hi + 2) (take j rs)) (behind : All (λ r. spot g hi + 2 ≤ begins_at r) (drop j rs)) where
+    (before : AllByRecursion (λ r. ends_at r < spot g lo - 1) (take i rs)) (touch : AllByRecursion (λ r. spot g lo - 1 ≤ ends_at r) (drop i rs))
+    (touched : AllByRecursion (λ r. begins_at r < spot g hi + 2) (take j rs)) (behind : AllByRecursion (λ r. spot g hi + 2 ≤ begins_at r) (drop j rs)) where
   pub lone : j ≤ i → Changed rs g (with_range lo hi (ranges g rs)) (take i rs ++ ((record { label = g; low = lo; high = hi }) ∷ [] ++ drop j rs))
   lone le = joined rs g lo hi i j f small law up (record { label = g; low = lo; high = hi }) (small, law)
       (All-weaker (λ r. ends_at r < spot g lo - 1) (λ r. ends_at r + 2 ≤ spot g lo) (λ r b. omega arith) (take i rs) before) behind
@@ -135,5 +135,5 @@ module _ (rs : List Row) (g lo hi i j : ℕ) (d : Row) (f : Rising 0 rs) (small 
         (all_both (λ r. spot g hi + 2 ≤ begins_at r) (λ r. ends_at last + 2 ≤ begins_at r) (λ r. ends_at whole + 2 ≤ begins_at r) (λ r a b. ⊎_elim (λ e. omega arith) (λ e. omega arith) high_end.2) (drop j rs) behind behind_last)
         whole_means
       where
-        behind_last : All (λ r. ends_at last + 2 ≤ begins_at r) (drop j rs)
-        behind_last = let js : suc (j - 1) ≡ j = omega arith in subst (λ n. All (λ r. ends_at last + 2 ≤ begins_at r) (drop n rs)) js (behind_row 0 rs (j - 1) d f (omega arith))
+        behind_last : AllByRecursion (λ r. ends_at last + 2 ≤ begins_at r) (drop j rs)
+        behind_last = let js : suc (j - 1) ≡ j = omega arith in subst (λ n. AllByRecursion (λ r. ends_at last + 2 ≤ begins_at r) (drop n rs)) js (behind_row 0 rs (j - 1) d f (omega arith))

@@ -1,6 +1,6 @@
 -- The rows between two places that a search has found, and what is put in their place.
 use Rattle.std.proofs.Common.{◌≡◌, ℕ, suc, ◌+◌, ◌-◌, ◌<◌, ◌≤◌, Bool, true, false, not, ◌⊎◌, List, [], ◌∷◌, length, get_or, take, drop, sym, refl, ap, ◌∙◌, subst, ⊎_elim, arith, length-drop}
-use Rattle.std.specs.List.{AllByRecursion as All}
+use Rattle.std.specs.List.{AllByRecursion}
 use Rattle.std.proofs.lemmas.Bool.{cases_lt}
 use Rattle.std.proofs.lemmas.Bool.Decides.{nat_tests}
 use Rattle.store.specs.Ids.{Lawful}
@@ -27,21 +27,21 @@ inside a b p l h = grind (arith, nat_tests)
 pub near_label : (g lo hi : ℕ) (r : Row) → Lawful lo hi → Fair r → spot g lo ≤ ends_at r + 1 → begins_at r ≤ spot g hi + 1 → r.label ≡ g
 near_label g lo hi r law fair low high = omega arith
 
-pub all_both : (P Q R : Row → Type 0) → ((r : Row) → P r → Q r → R r) → (rs : List Row) → All P rs → All Q rs → All R rs
+pub all_both : (P Q R : Row → Type 0) → ((r : Row) → P r → Q r → R r) → (rs : List Row) → AllByRecursion P rs → AllByRecursion Q rs → AllByRecursion R rs
 all_both P Q R f [] a b = tt
 all_both P Q R f (r ∷ rs) a b = (f r a.0 b.0, all_both P Q R f rs a.1 b.1)
 
 -- what holds of the rows up to a place, or from a place on, holds of a row there
-pub below_place : (P : Row → Type 0) (rs : List Row) (i k : ℕ) (d : Row) → i ≤ length rs → k < i → All P (take i rs) → P (get_or rs k d)
+pub below_place : (P : Row → Type 0) (rs : List Row) (i k : ℕ) (d : Row) → i ≤ length rs → k < i → AllByRecursion P (take i rs) → P (get_or rs k d)
 below_place P rs i k d l h a = subst P (get_or-take i rs k d h) (All-get_or P (take i rs) k d (omega (arith, length-take-le i rs l)) a)
 
-pub from_place : (P : Row → Type 0) (rs : List Row) (i k : ℕ) (d : Row) → k < length rs → i ≤ k → All P (drop i rs) → P (get_or rs k d)
+pub from_place : (P : Row → Type 0) (rs : List Row) (i k : ℕ) (d : Row) → k < length rs → i ≤ k → AllByRecursion P (drop i rs) → P (get_or rs k d)
 from_place P rs i k d l h a =
     let is : i + (k - i) ≡ k = omega arith in
     subst P (get_or-drop i rs (k - i) d ∙ ap (λ n. get_or rs n d) is) (All-get_or P (drop i rs) (k - i) d (omega (arith, length-drop i rs)) a)
 
 -- rows that end before a spot, and the rest that begins after it, do not overlap
-pub ordered_places : (rs : List Row) (i j at to : ℕ) (d : Row) → Rising 0 rs → i ≤ length rs → j ≤ length rs → at ≤ to → All (λ r. ends_at r < at) (take i rs) → All (λ r. to ≤ begins_at r) (drop j rs) → i ≤ j
+pub ordered_places : (rs : List Row) (i j at to : ℕ) (d : Row) → Rising 0 rs → i ≤ length rs → j ≤ length rs → at ≤ to → AllByRecursion (λ r. ends_at r < at) (take i rs) → AllByRecursion (λ r. to ≤ begins_at r) (drop j rs) → i ≤ j
 ordered_places rs i j at to d f a b h before behind = ⊎_elim
     (λ (lt : j < i). absurd (omega (arith, below_place (λ r. ends_at r < at) rs i j d a lt before, from_place (λ r. to ≤ begins_at r) rs j j d (omega arith) (omega arith) behind, fair_place 0 rs j d f (omega arith))))
     (λ ge. ge)
@@ -65,5 +65,5 @@ module _ (rs : List Row) (i j : ℕ) (d : Row) (f : Rising 0 rs) (h : i < j) (l 
       let is : i + m ≡ j = omega arith in
       let js : suc (j - 1) ≡ j = omega arith in
       covers_between (begins_at (get_or rs i d)) (ends_at (get_or rs (j - 1) d)) p (drop i (take j rs))
-      (subst (All (λ r. begins_at (get_or rs i d) ≤ begins_at r)) (sym (drop-take i m rs) ∙ ap (λ n. drop i (take n rs)) is) (All-take _ m (drop i rs) (from_row 0 rs i d f (omega arith))))
-      (All-drop _ i (take j rs) (subst (λ n. All (λ r. ends_at r ≤ ends_at (get_or rs (j - 1) d)) (take n rs)) js (up_to_row 0 rs (j - 1) d f (omega arith)))) w
+      (subst (AllByRecursion (λ r. begins_at (get_or rs i d) ≤ begins_at r)) (sym (drop-take i m rs) ∙ ap (λ n. drop i (take n rs)) is) (All-take _ m (drop i rs) (from_row 0 rs i d f (omega arith))))
+      (All-drop _ i (take j rs) (subst (λ n. AllByRecursion (λ r. ends_at r ≤ ends_at (get_or rs (j - 1) d)) (take n rs)) js (up_to_row 0 rs (j - 1) d f (omega arith)))) w

@@ -1,7 +1,7 @@
 -- What the order of rows gives, by lists and by places.
 use Rattle.std.specs.Prelude.{◌≡◌, ℕ, zero, suc, ◌+◌, ◌<◌, ◌≤◌, true, List, [], ◌∷◌, ◌++◌, length, take, drop, slice_index_or, refl}
 use Rattle.std.proofs.Common.{arith}
-use Rattle.std.specs.List.{AllByRecursion as All}
+use Rattle.std.specs.List.{AllByRecursion}
 use Rattle.std.proofs.lemmas.Bool.{and_parts, and_from, leb-true, le-leb, eqb-true, eq-eqb, ltb-true, lt-ltb}
 use Rattle.rows.specs.declared.row.Row.{Row}
 use Rattle.rows.specs.Rows.{begins_at, ends_at, Fair, fair, Rising, rising}
@@ -32,21 +32,21 @@ pub earlier : (n m : ℕ) (rs : List Row) → n ≤ m → Rising m rs → Rising
 earlier n m [] h f = tt
 earlier n m (r ∷ rs) h f = (omega arith, f.1, f.2)
 
-pub fair_rows : (n : ℕ) (rs : List Row) → Rising n rs → All Fair rs
+pub fair_rows : (n : ℕ) (rs : List Row) → Rising n rs → AllByRecursion Fair rs
 fair_rows n [] f = tt
 fair_rows n (r ∷ rs) f = (f.1, fair_rows (ends_at r + 2) rs f.2)
 
 -- every row of a rising list begins at the list's start or later
-pub begin_late : (n : ℕ) (rs : List Row) → Rising n rs → All (λ r. n ≤ begins_at r) rs
+pub begin_late : (n : ℕ) (rs : List Row) → Rising n rs → AllByRecursion (λ r. n ≤ begins_at r) rs
 begin_late n [] f = tt
 begin_late n (r ∷ rs) f = (f.0, later (ends_at r + 2) rs (omega arith) f.2)
   where
-    later : (m : ℕ) (qs : List Row) → n ≤ m → Rising m qs → All (λ r. n ≤ begins_at r) qs
+    later : (m : ℕ) (qs : List Row) → n ≤ m → Rising m qs → AllByRecursion (λ r. n ≤ begins_at r) qs
     later m [] h g = tt
     later m (q ∷ qs) h g = (omega arith, later (ends_at q + 2) qs (omega arith) g.2)
 
 -- two rising lists, the first all before the second
-pub rising_join : (n m : ℕ) (xs ys : List Row) → Rising n xs → All (λ r. ends_at r + 2 ≤ m) xs → n ≤ m → Rising m ys → Rising n (xs ++ ys)
+pub rising_join : (n m : ℕ) (xs ys : List Row) → Rising n xs → AllByRecursion (λ r. ends_at r + 2 ≤ m) xs → n ≤ m → Rising m ys → Rising n (xs ++ ys)
 rising_join n m [] ys f a h g = earlier n m ys h g
 rising_join n m (x ∷ xs) ys f a h g = (f.0, f.1, rising_join (ends_at x + 2) m xs ys f.2 a.1 a.0 g)
 
@@ -55,7 +55,7 @@ rising-take n zero rs f = tt
 rising-take n (suc i) [] f = tt
 rising-take n (suc i) (r ∷ rs) f = (f.0, f.1, rising-take (ends_at r + 2) i rs f.2)
 
-pub rising-drop : (n i m : ℕ) (rs : List Row) → Rising n rs → All (λ r. m ≤ begins_at r) (drop i rs) → Rising m (drop i rs)
+pub rising-drop : (n i m : ℕ) (rs : List Row) → Rising n rs → AllByRecursion (λ r. m ≤ begins_at r) (drop i rs) → Rising m (drop i rs)
 rising-drop n zero m [] f a = tt
 rising-drop n zero m (r ∷ rs) f a = (a.0, f.1, f.2)
 rising-drop n (suc i) m [] f a = tt
@@ -64,7 +64,7 @@ rising-drop n (suc i) m (r ∷ rs) f a = rising-drop (ends_at r + 2) i m rs f.2 
 pub rising_rest : (n i : ℕ) (rs : List Row) → Rising n rs → Rising 0 (drop i rs)
 rising_rest n i rs f = rising-drop n i 0 rs f (any (drop i rs))
   where
-    any : (qs : List Row) → All (λ r. 0 ≤ begins_at r) qs
+    any : (qs : List Row) → AllByRecursion (λ r. 0 ≤ begins_at r) qs
     any [] = tt
     any (q ∷ qs) = (omega arith, any qs)
 
@@ -86,22 +86,22 @@ fair_place n (r ∷ rs) zero d f l = f.1
 fair_place n (r ∷ rs) (suc k) d f l = fair_place (ends_at r + 2) rs k d f.2 (omega arith)
 
 -- the rows before a row, from it on, up to it, and behind it
-pub before_row : (n : ℕ) (rs : List Row) (k : ℕ) (d : Row) → Rising n rs → k < length rs → All (λ r. ends_at r + 2 ≤ begins_at (slice_index_or rs k d)) (take k rs)
+pub before_row : (n : ℕ) (rs : List Row) (k : ℕ) (d : Row) → Rising n rs → k < length rs → AllByRecursion (λ r. ends_at r + 2 ≤ begins_at (slice_index_or rs k d)) (take k rs)
 before_row n rs zero d f l = tt
 before_row n [] (suc k) d f l = tt
 before_row n (r ∷ rs) (suc k) d f l = (later_row n (r ∷ rs) 0 (suc k) d f (omega arith) l, before_row (ends_at r + 2) rs k d f.2 (omega arith))
 
-pub from_row : (n : ℕ) (rs : List Row) (k : ℕ) (d : Row) → Rising n rs → k < length rs → All (λ r. begins_at (slice_index_or rs k d) ≤ begins_at r) (drop k rs)
+pub from_row : (n : ℕ) (rs : List Row) (k : ℕ) (d : Row) → Rising n rs → k < length rs → AllByRecursion (λ r. begins_at (slice_index_or rs k d) ≤ begins_at r) (drop k rs)
 from_row n [] k d f l = absurd (omega arith)
 from_row n (r ∷ rs) zero d f l = begin_late (begins_at r) (r ∷ rs) (omega arith, f.1, f.2)
 from_row n (r ∷ rs) (suc k) d f l = from_row (ends_at r + 2) rs k d f.2 (omega arith)
 
-pub up_to_row : (n : ℕ) (rs : List Row) (k : ℕ) (d : Row) → Rising n rs → k < length rs → All (λ r. ends_at r ≤ ends_at (slice_index_or rs k d)) (take (suc k) rs)
+pub up_to_row : (n : ℕ) (rs : List Row) (k : ℕ) (d : Row) → Rising n rs → k < length rs → AllByRecursion (λ r. ends_at r ≤ ends_at (slice_index_or rs k d)) (take (suc k) rs)
 up_to_row n [] k d f l = absurd (omega arith)
 up_to_row n (r ∷ rs) zero d f l = (omega arith, tt)
 up_to_row n (r ∷ rs) (suc k) d f l = (omega (arith, later_row n (r ∷ rs) 0 (suc k) d f (omega arith) l, fair_place n (r ∷ rs) (suc k) d f l), up_to_row (ends_at r + 2) rs k d f.2 (omega arith))
 
-pub behind_row : (n : ℕ) (rs : List Row) (k : ℕ) (d : Row) → Rising n rs → k < length rs → All (λ r. ends_at (slice_index_or rs k d) + 2 ≤ begins_at r) (drop (suc k) rs)
+pub behind_row : (n : ℕ) (rs : List Row) (k : ℕ) (d : Row) → Rising n rs → k < length rs → AllByRecursion (λ r. ends_at (slice_index_or rs k d) + 2 ≤ begins_at r) (drop (suc k) rs)
 behind_row n [] k d f l = absurd (omega arith)
 behind_row n (r ∷ rs) zero d f l = begin_late (ends_at r + 2) rs f.2
 behind_row n (r ∷ rs) (suc k) d f l = behind_row (ends_at r + 2) rs k d f.2 (omega arith)

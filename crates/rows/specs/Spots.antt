@@ -1,7 +1,7 @@
 -- The ranges under a label: canonical, and found by their spots.
 use Rattle.std.specs.Prelude.{◌≡◌, ℕ, ◌+◌, ◌-◌, ◌*◌, ◌^◌, ◌<◌, ◌≤◌, true, false, ◌⊎◌, List, [], ◌∷◌, ◌++◌, take, drop, Some, None, Option, ◌==◌, ◌≢◌, nat_le, slice_index_or, refl}
 use Rattle.std.proofs.Common.{sym, ap, subst, ◌∙◌, inl, inr, arith, take-append-drop}
-use Rattle.std.specs.List.{AllByRecursion as All}
+use Rattle.std.specs.List.{AllByRecursion}
 use Rattle.std.proofs.lemmas.Bool.{cond_both, cond-true, cond-false, eq-eqb, ne_eqb, eqb-true, lt-ltb, le-ltb, le-leb, lt-leb, cases_lt}
 use Rattle.std.proofs.lemmas.Bool.Decides.{nat_tests}
 use Rattle.store.specs.Ranges.{Span, place, within, has, From, Canonical, next_range, LowestNotBelow, LowestOrNone}
@@ -30,7 +30,7 @@ none_under n s [] h f = refl
 none_under n s (r ∷ rs) h f = cond-false _ _ _ (ne_eqb r.label s (omega arith)) ∙ none_under (ends_at r + 2) s rs (omega arith) f.2
 
 -- rows that end before a spot are passed over
-passed : (s n : ℕ) (xs ys : List Row) → All Fair xs → All (λ r. ends_at r < spot s n) xs → next_range (ranges s (xs ++ ys)) n ≡ next_range (ranges s ys) n
+passed : (s n : ℕ) (xs ys : List Row) → AllByRecursion Fair xs → AllByRecursion (λ r. ends_at r < spot s n) xs → next_range (ranges s (xs ++ ys)) n ≡ next_range (ranges s ys) n
 passed s n [] ys f a = refl
 passed s n (x ∷ xs) ys f a =
     cond_both (x.label == s) _ _ (λ l. next_range l n ≡ next_range (ranges s ys) n)
@@ -40,9 +40,9 @@ passed s n (x ∷ xs) ys f a =
     (λ e. passed s n xs ys f.1 a.1)
 
 -- the first row that does not end before a number's spot
-module _ (t : Table) (s n i at : ℕ) (is_at : at ≡ spot s n) (found : All (λ r. ends_at r < at) (take i (rows_of t))) where
-  before : All (λ r. ends_at r < spot s n) (take i (rows_of t))
-  before = subst (λ x. All (λ r. ends_at r < x) (take i (rows_of t))) is_at found
+module _ (t : Table) (s n i at : ℕ) (is_at : at ≡ spot s n) (found : AllByRecursion (λ r. ends_at r < at) (take i (rows_of t))) where
+  before : AllByRecursion (λ r. ends_at r < spot s n) (take i (rows_of t))
+  before = subst (λ x. AllByRecursion (λ r. ends_at r < x) (take i (rows_of t))) is_at found
 
   from_here : next_range (ranges s (rows_of t)) n ≡ next_range (ranges s (drop i (rows_of t))) n
   from_here = ap (λ l. next_range (ranges s l) n) (sym (take-append-drop i (rows_of t))) ∙ passed s n (take i (rows_of t)) (drop i (rows_of t)) (fair_rows 0 (take i (rows_of t)) (rising-take 0 i (rows_of t) (in_order t))) before
@@ -50,7 +50,7 @@ module _ (t : Table) (s n i at : ℕ) (is_at : at ≡ spot s n) (found : All (λ
   pub next_none : t.used ≤ i → None ≡ next_range (ranges s (rows_of t)) n
   next_none h = sym (from_here ∙ ap (λ l. next_range (ranges s l) n) (no_rest t i h))
 
-  module _ (r : Row) (h : i < t.used) (e : r ≡ slice_index_or t.rows.items i r) (small : n < 2 ^ 64) (after : All (λ x. at ≤ ends_at x) (drop i (rows_of t))) where
+  module _ (r : Row) (h : i < t.used) (e : r ≡ slice_index_or t.rows.items i r) (small : n < 2 ^ 64) (after : AllByRecursion (λ x. at ≤ ends_at x) (drop i (rows_of t))) where
     late : spot s n ≤ ends_at r
     late = subst (λ x. x ≤ ends_at r) is_at (ends_late t at i found r h e after)
 

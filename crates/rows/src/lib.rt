@@ -1,4 +1,6 @@
 // A store in ordered rows, in memory that the caller hands over.
+#![tactic(auto)]
+
 mod change;
 mod edit;
 mod labels;

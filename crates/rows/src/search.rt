@@ -1,6 +1,6 @@
 // Where rows stand: binary search on the line of all labels and IDs.
 ghost use Rattle.std.specs.Prelude.{◌≡◌, ◌<◌, ◌≤◌, length, take, drop};
-ghost use Rattle.std.specs.List.{AllByRecursion as All};
+ghost use Rattle.std.specs.List.{AllByRecursion};
 ghost use Rattle.store.specs.Ranges.{has, next_range};
 ghost use Rattle.rows.specs.Rows.{spot, begins_at, ends_at, ranges};
 ghost use Rattle.rows.specs.Tables.{rows_of};
@@ -37,8 +37,8 @@ impl Table {
     /// How many rows end before this spot.
     pub(crate) fn ending_before(&self, at: u128) -> usize
         ensures inside { result ≤ length (rows_of self.now) }
-        ensures before { All (λ x. ends_at x < at) (take result (rows_of self.now)) }
-        ensures after { All (λ x. at ≤ ends_at x) (drop result (rows_of self.now)) }
+        ensures before { AllByRecursion (λ x. ends_at x < at) (take result (rows_of self.now)) }
+        ensures after { AllByRecursion (λ x. at ≤ ends_at x) (drop result (rows_of self.now)) }
     {
         let mut low = 0;
         let mut high = self.used;
@@ -57,8 +57,8 @@ impl Table {
     /// How many rows begin before this spot.
     pub(crate) fn beginning_before(&self, at: u128) -> usize
         ensures inside { result ≤ length (rows_of self.now) }
-        ensures before { All (λ x. begins_at x < at) (take result (rows_of self.now)) }
-        ensures after { All (λ x. at ≤ begins_at x) (drop result (rows_of self.now)) }
+        ensures before { AllByRecursion (λ x. begins_at x < at) (take result (rows_of self.now)) }
+        ensures after { AllByRecursion (λ x. at ≤ begins_at x) (drop result (rows_of self.now)) }
     {
         let ended = self.ending_before(at);
         if ended < self.used {

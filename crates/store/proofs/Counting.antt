@@ -2,7 +2,7 @@
 use Rattle.std.proofs.Common.{◌≡◌, ℕ, zero, suc, ◌+◌, ◌-◌, ◌%◌, ◌^◌, ◌<◌, ◌≤◌, true, false, cond, not, ◌&&◌, ◌||◌, eqb, ltb, ◌⊎◌, List, [], ◌∷◌, length, sym, refl, ap, ◌∙◌, inl, inr, ⊎_elim, arith}
 use mathlib.Core.Path.{fun_ext}
 use Rattle.std.proofs.lemmas.Bool.{lt-ltb, le-ltb, eq-eqb, ne_eqb, cases_eq, cases_lt, cases_Bool, both_ways, cond-true, cond-false, cond_both, and_parts, and_from, not-true, not_from_false, or_cases, or_parts, or_left}
-use Rattle.std.specs.List.{AllByRecursion as All}
+use Rattle.std.specs.List.{AllByRecursion}
 use Rattle.std.proofs.lemmas.Bool.Decides.{nat_tests}
 use Rattle.store.specs.Ids.{Lawful}
 use Rattle.store.specs.Ranges.{Span, place, within, has, From, Canonical, goes_before, begins, beginnings}
@@ -122,15 +122,15 @@ one_more_at_most r rs (suc n) l =
     (cases_eq n r.0)
 
 -- ranges that need not be maximal are no fewer than the IDs that begin a range
-at_least_beginnings : (n : ℕ) (qs : List Span) → All (λ q. Lawful q.0 q.1) qs → beginnings (has qs) n ≤ length qs
+at_least_beginnings : (n : ℕ) (qs : List Span) → AllByRecursion (λ q. Lawful q.0 q.1) qs → beginnings (has qs) n ≤ length qs
 unfolding past_it
 at_least_beginnings n [] l = omega (arith, no_beginnings n)
 at_least_beginnings n (q ∷ qs) l =
     let one : past_it q.0 n ≤ 1 = cond_both {A = ℕ} (ltb q.0 n) 1 0 (λ k. k ≤ 1) (λ _. omega arith) (λ _. omega arith) in
     omega (arith, one, one_more_at_most q qs n l.0, at_least_beginnings n qs l.1)
 
-fewest_below : (n : ℕ) → 2 ^ 64 ≤ n → (rs qs : List Span) → Canonical rs → All (λ q. Lawful q.0 q.1) qs → ((id : ℕ) → has rs id ≡ has qs id) → length rs ≤ length qs
+fewest_below : (n : ℕ) → 2 ^ 64 ≤ n → (rs qs : List Span) → Canonical rs → AllByRecursion (λ q. Lawful q.0 q.1) qs → ((id : ℕ) → has rs id ≡ has qs id) → length rs ≤ length qs
 fewest_below n h rs qs f l e = omega (arith, counted 0 n rs f h, ap (λ g. beginnings g n) (fun_ext e), at_least_beginnings n qs l)
 
-pub fewest : (rs qs : List Span) → Canonical rs → All (λ q. Lawful q.0 q.1) qs → ((id : ℕ) → has rs id ≡ has qs id) → length rs ≤ length qs
+pub fewest : (rs qs : List Span) → Canonical rs → AllByRecursion (λ q. Lawful q.0 q.1) qs → ((id : ℕ) → has rs id ≡ has qs id) → length rs ≤ length qs
 fewest = fewest_below (2 ^ 64) (omega arith)

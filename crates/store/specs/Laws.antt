@@ -1,6 +1,6 @@
 -- The laws of IDs, ranges and sets, each asked for by the contract of a function of src/laws.rt.
 use Rattle.std.specs.Prelude.{◌≡◌, ℕ, ◌+◌, ◌-◌, ◌*◌, ◌^◌, ◌<◌, ◌≤◌, true, false, not, ◌&&◌, ◌||◌, List, [], ◌∷◌, length, Some, None, Decides, ◌≢◌}
-use Rattle.std.specs.List.{AllByRecursion as All}
+use Rattle.std.specs.List.{AllByRecursion}
 use Rattle.store.specs.Ids.{replid, counter, Lawful}
 use Rattle.store.specs.Ranges.{Span, apart, within, has, Canonical, with_range, without_range, next_range, LowestOrNone, beginnings}
 use Rattle.store.specs.Sets.{Model, nothing, number, numbered, with_set, total}
@@ -34,7 +34,7 @@ RangesAreCountedByTheirFirstIds = (rs : List Span) → Canonical rs → length r
 
 -- no fewer ranges name the same IDs
 abbrev pub MaximalRangesAreTheFewest : Type 0
-MaximalRangesAreTheFewest = (rs qs : List Span) → Canonical rs → All (λ q. Lawful q.0 q.1) qs → ((id : ℕ) → has rs id ≡ has qs id) → length rs ≤ length qs
+MaximalRangesAreTheFewest = (rs qs : List Span) → Canonical rs → AllByRecursion (λ q. Lawful q.0 q.1) qs → ((id : ℕ) → has rs id ≡ has qs id) → length rs ≤ length qs
 
 abbrev pub AddingByMembership : Type 0
 AddingByMembership = (rs : List Span) (low high : ℕ) → Canonical rs → Lawful low high → Canonical (with_range low high rs) × ((id : ℕ) → has (with_range low high rs) id ≡ (has rs id || within low high id))

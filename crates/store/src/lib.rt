@@ -1,4 +1,6 @@
 // IDs, ranges, the eleven sets, and what every store of ranges does.
+#![tactic(auto)]
+
 pub mod laws;
 pub mod limit;
 pub mod range;

@@ -1,4 +1,6 @@
 // Times the calls of a workload on a store: STORE and RUNS are its arguments, and the workload is on standard input.
+#![tactic(auto)]
+
 mod call;
 mod measure;
 mod perform;

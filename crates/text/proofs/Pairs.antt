@@ -1,6 +1,6 @@
 -- Pairs of hex digits: read one after another they give what the whole word reads as, and written ones read back.
 use Rattle.std.proofs.Common.{◌≡◌, ℕ, ◌+◌, ◌-◌, ◌/◌, ◌%◌, ◌<◌, ◌≤◌, List, [], ◌∷◌, ◌++◌, length, get_or, take, drop, Some, None, Option, sym, refl, ap, ◌∙◌, arith}
-use Rattle.std.specs.List.{flat_map, AllByRecursion as All}
+use Rattle.std.specs.List.{flat_map, AllByRecursion}
 use Rattle.std.proofs.lemmas.List.{append_assoc, append-nil, take_more, take_all, take_rest, flat_map_more}
 use Rattle.std.proofs.lemmas.Bool.Decides.{nat_tests}
 use Rattle.text.specs.Hex.{hex_digit, byte_of, in_front, pairs, hex_bytes, hex_character, two_digits, hex_text, PrintedBytesReadBack}
@@ -21,7 +21,7 @@ byte_reads_back : (b : ℕ) → b < 256 → byte_of (hex_digit (hex_character (b
 byte_reads_back b h =
     rw (digit_reads_back (b / 16) (omega arith), digit_reads_back (b % 16) (omega arith)) (ap Some (omega arith))
 
-pairs_read_back : (bs : List ℕ) → All (λ b. b < 256) bs → pairs (flat_map two_digits bs) ≡ Some bs
+pairs_read_back : (bs : List ℕ) → AllByRecursion (λ b. b < 256) bs → pairs (flat_map two_digits bs) ≡ Some bs
 pairs_read_back [] h = refl
 pairs_read_back (b ∷ bs) h = rw (byte_reads_back b h.0, pairs_read_back bs h.1)
 

@@ -1,6 +1,6 @@
 -- How bytes are read from a word, and how they are written: two hex digits for a byte, the high half first, and `-` for no bytes.
 use Rattle.std.specs.Prelude.{◌≡◌, ℕ, ◌+◌, ◌-◌, ◌*◌, ◌/◌, ◌%◌, ◌<◌, cond, ◌&&◌, List, [], ◌∷◌, Some, None, Option, ◌==◌, nat_le, nat_lt}
-use Rattle.std.specs.List.{flat_map, AllByRecursion as All}
+use Rattle.std.specs.List.{flat_map, AllByRecursion}
 
 -- what a hex digit counts: `0` to `9` (48 to 57), `a` to `f` (97 to 102) or `A` to `F` (65 to 70)
 abbrev pub hex_digit : ℕ → Option ℕ
@@ -47,4 +47,4 @@ hex_text (b ∷ bs) = flat_map two_digits (b ∷ bs)
 
 -- bytes that are printed read back as themselves
 abbrev pub PrintedBytesReadBack : Type 0
-PrintedBytesReadBack = (bs : List ℕ) → All (λ b. b < 256) bs → hex_bytes (hex_text bs) ≡ Some bs
+PrintedBytesReadBack = (bs : List ℕ) → AllByRecursion (λ b. b < 256) bs → hex_bytes (hex_text bs) ≡ Some bs

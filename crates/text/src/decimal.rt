@@ -40,7 +40,7 @@ fn with_digit(number: u64, byte: u8) -> Option<u64>
 pub fn write_decimal(n: u64, out: &mut Vec<u8>) -> Result<(), AllocError>
     ensures { out.new.items ≡ (if is_ok result then out.old.items ++ digits n else out.old.items) }
 {
-    let text = n.to_string(out.allocator())?;
+    let text = n.to_string(*out.allocator())?;
     out.extend_from_slice(text.as_bytes())
 }
 

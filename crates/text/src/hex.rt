@@ -66,7 +66,7 @@ fn digit_value(digit: u8) -> Option<u8>
 pub fn write_hex(bytes: &[u8], out: &mut Vec<u8>) -> Result<(), AllocError>
     ensures { out.new.items ≡ (if is_ok result then out.old.items ++ hex_text bytes.now else out.old.items) }
 {
-    let text = hex_of(out.allocator(), bytes)?;
+    let text = hex_of(*out.allocator(), bytes)?;
     out.extend_from_slice(text.as_slice())
 }
 

@@ -1,4 +1,5 @@
 //! Reading and printing of numbers and bytes in scripts.
+#![tactic(auto)]
 
 mod decimal;
 mod hex;

@@ -35,6 +35,6 @@ returns c =
       start = elim c.if-first-low.branch [ then-first-low w ↦ omega (arith, w.start-is) | else-first-low w ↦ elim c.if-high-last.branch [ then-high-last v ↦ omega (arith, w.start-is, v.end-is) | else-high-last v ↦ omega (arith, w.start-is, v.end-is) ] ];
       end = elim c.if-high-last.branch [ then-high-last v ↦ omega (arith, v.end-is) | else-high-last v ↦ omega (arith, v.end-is) ];
       two = refl;
-      rows = same_parts s e a.label c.low-low.result c.high-high.result a.range.low a.range.high a.first.low a.last.high c.saturating-add.result c.low-low.ensures.value c.high-high.ensures.value c.saturating-add.ensures
+      rows = same_parts s e a.label c.low-low.result c.high-high.result a.range.low a.range.high a.first.low a.last.high c.saturating_add.result c.low-low.ensures.value c.high-high.ensures.value c.saturating_add.ensures
           ∙ chosen (ltb a.first.low a.range.low) (ltb a.range.high a.last.high) s e _ _ (begins c) (stops c);
     }

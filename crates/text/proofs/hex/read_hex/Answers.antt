@@ -4,5 +4,5 @@ use Rattle.std.proofs.lemmas.Result.{IfOk-weaker}
 use Rattle.text.proofs.Pairs.{long_word}
 use Rattle.text.proofs.hex.read_hex.Goals as goal
 
-pub returns-in-default : goal.returns-in-default
-returns-in-default c = IfOk-weaker c.read-pairs.result _ _ (λ o e. e ∙ long_word c.args.word.now (search rules)) c.read-pairs.ensures
+pub returns-in_default : goal.returns-in_default
+returns-in_default c = IfOk-weaker c.read_pairs.result _ _ (λ o e. e ∙ long_word c.args.word.now (search rules)) c.read_pairs.ensures

@@ -6,17 +6,14 @@ use Rattle.rows.proofs.labels.Labels.swap.Goals as goal
 as_long : (l : List ℕ) (i v j w : ℕ) → length (set (set l i v) j w) ≡ length l
 as_long l i v j w = length-set (set l i v) j w ∙ length-set l i v
 
-pub invariant-of-self : goal.invariant-of-self
-invariant-of-self c =
+pub invariant_of-self : goal.invariant_of-self
+invariant_of-self c =
     let x = c.args.self.now in
     let a = c.number-a in
-    let b = c.number-b in (
-      as_long x.label _ _ _ _ ∙ omega arith,
-      (
-        as_long x.owner _ _ _ _ ∙ omega arith,
-        (
-          swapped_back x.label x.owner a.result b.result (omega arith) (omega arith) x.owned a.ensures.small b.ensures.small,
-          (swapped_owner x.label x.owner a.result b.result (omega arith) (omega arith) x.owned x.labelled a.ensures.small b.ensures.small, tt),
-        ),
-      ),
-    )
+    let b = c.number-b in
+    record {
+      labels = as_long x.label _ _ _ _ ∙ omega arith;
+      owners = as_long x.owner _ _ _ _ ∙ omega arith;
+      owned = swapped_back x.label x.owner a.result b.result (omega arith) (omega arith) x.owned a.ensures.small b.ensures.small;
+      labelled = swapped_owner x.label x.owner a.result b.result (omega arith) (omega arith) x.owned x.labelled a.ensures.small b.ensures.small;
+    }

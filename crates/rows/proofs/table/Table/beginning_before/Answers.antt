@@ -3,10 +3,10 @@ use Rattle.std.proofs.Common.{arith}
 use Rattle.rows.specs.Searches.{in_use, begun, none_later, one_more_begun, ends_late, rest_later, all_later}
 use Rattle.rows.proofs.table.Table.beginning_before.Goals as goal
 
-pub returns-then-begins-at-at : goal.returns-then-begins-at-at
-returns-then-begins-at-at c =
+pub returns-then-begins_at-at : goal.returns-then-begins_at-at
+returns-then-begins_at-at c =
     let t = c.args.self.now in
-    let e = c.ending-before-ended in
+    let e = c.ending_before-ended in
     let r = c.index-row.result.now in
     record {
       inside = omega (arith, in_use t);
@@ -14,10 +14,10 @@ returns-then-begins-at-at c =
       after = rest_later t c.args.at e.result e.ensures.before r c.if-ended-self.true c.index-row.ensures (ends_late t c.args.at e.result e.ensures.before r c.if-ended-self.true c.index-row.ensures e.ensures.after);
     }
 
-pub returns-else-begins-at-at : goal.returns-else-begins-at-at
-returns-else-begins-at-at c =
+pub returns-else-begins_at-at : goal.returns-else-begins_at-at
+returns-else-begins_at-at c =
     let t = c.args.self.now in
-    let e = c.ending-before-ended in
+    let e = c.ending_before-ended in
     record {
       inside = e.ensures.inside;
       before = begun t c.args.at e.result e.ensures.before;
@@ -27,7 +27,7 @@ returns-else-begins-at-at c =
 pub returns-else-ended-self : goal.returns-else-ended-self
 returns-else-ended-self c =
     let t = c.args.self.now in
-    let e = c.ending-before-ended in
+    let e = c.ending_before-ended in
     record {
       inside = e.ensures.inside;
       before = begun t c.args.at e.result e.ensures.before;

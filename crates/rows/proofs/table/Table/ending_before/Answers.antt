@@ -3,8 +3,8 @@ use Rattle.std.proofs.Common.{arith}
 use Rattle.rows.specs.Searches.{in_use, low_half, high_half, all_before, all_after}
 use Rattle.rows.proofs.table.Table.ending_before.Goals as goal
 
-pub loop-low-preserved-then-ends-at-at : goal.loop-low-preserved-then-ends-at-at
-loop-low-preserved-then-ends-at-at c =
+pub loop-low-preserved-then-ends_at-at : goal.loop-low-preserved-then-ends_at-at
+loop-low-preserved-then-ends_at-at c =
     let i = c.loop-low.invariant in
     (omega arith, i.1, low_half c.args.self.now c.args.at _ c.index-row.result.now (omega arith) c.index-row.ensures (omega arith), i.3)
 
