@@ -5,11 +5,11 @@ use Rattle.cells.specs.Held.{linked, long}
 use Rattle.cells.proofs.Writes.{swapped}
 use Rattle.cells.proofs.chains.Chains.exchange.Goals as goal
 
-pub invariant-of-self : goal.invariant-of-self
-invariant-of-self c =
+pub invariant_of-self : goal.invariant_of-self
+invariant_of-self c =
     let x = c.args.self.now in
     let m = swapped (vec_items x.cells) x.ends c.args.one.number c.args.two.number (linked x) x.twelve c.args.one.small c.args.two.small c.requires in
-    (x.least, (x.most, (m.twelve, (m.running, (m.ending, (m.parted, (m.whole ∙ long x, tt)))))))
+    record { least = x.least; most = x.most; twelve = m.twelve; running = m.running; ending = m.ending; parted = m.parted; whole = m.whole ∙ long x }
 
 pub returns : goal.returns
 returns c =

@@ -7,20 +7,20 @@ use Rattle.cells.specs.Chains.{ranges_of, Changed}
 use Rattle.cells.specs.Held.{last_fits}
 use Rattle.cells.proofs.Puts.{grown}
 use Rattle.cells.proofs.chains.Chains.grow_last.Goals as goal
-use Rattle.cells.proofs.chains.Chains.grow_last.Goals.{After-set-last-high}
+use Rattle.cells.proofs.chains.Chains.grow_last.Goals.{After-set_last_high}
 
 pub index-last-requires : goal.index-last-requires
 index-last-requires c = last_fits c.args.self.now c.args.chain.number (omega (arith, c.args.chain.small)) (omega (arith, c.if-ends-eq0.false))
 
-done : (c : After-set-last-high) → Changed c.args.self.now c.set-last-high.new.self c.args.chain.number (with_range c.args.range.low c.args.range.high (ranges_of c.args.self.now c.args.chain.number))
+done : (c : After-set_last_high) → Changed c.args.self.now c.set_last_high.new.self c.args.chain.number (with_range c.args.range.low c.args.range.high (ranges_of c.args.self.now c.args.chain.number))
 done c =
     let x = c.args.self.now in
     let k = c.args.chain.number in
-    let y = c.set-last-high.new.self in
+    let y = c.set_last_high.new.self in
     let high = c.args.range.high in
     subst (λ n. Changed x y k (with_range n high (ranges_of x k))) c.low-low.ensures.value
-    (grown x y k c.args.chain.small c.requires (omega (arith, c.if-ends-eq0.false)) c.index-last.result.now c.index-last.ensures c.low-low.result high c.adjoining-below.result c.max.result c.low-low.ensures.lawful c.adjoining-below.ensures
-    c.if-low-last.false c.if-last-adjoining-below.false (c.max.ensures ∙ ap (max c.index-last.result.now.high) c.high.ensures.value) c.set-last-high.ensures)
+    (grown x y k c.args.chain.small c.requires (omega (arith, c.if-ends-eq0.false)) c.index-last.result.now c.index-last.ensures c.low-low.result high c.adjoining_below.result c.max.result c.low-low.ensures.lawful c.adjoining_below.ensures
+    c.if-low-last.false c.if-last-adjoining_below.false (c.max.ensures ∙ ap (max c.index-last.result.now.high) c.high.ensures.value) c.set_last_high.ensures)
 
 pub returns : goal.returns
 returns c =
@@ -28,7 +28,7 @@ returns c =
     let k = c.args.chain.number in
     let g = c.args.range in
     let law = subst (λ n. Lawful n g.high) c.low-low.ensures.value c.low-low.ensures.lawful in
-    let made = done (goal.at.returns c).After-set-last-high in
+    let made = done (goal.at.returns c).After-set_last_high in
     record {
       order = λ _. subst Canonical (sym made.here) (adding_keeps_order 0 g.low g.high (ranges_of x k) (omega arith) law c.requires);
       grown = λ _. made;

@@ -11,14 +11,14 @@ index-spare-requires c = first_fits c.args.self.now 11 (omega arith) c.requires.
 pub index-before-requires : goal.index-before-requires
 index-before-requires c = behind_fits c.args.self.now c.args.chain.number c.args.gap.place c.args.gap.before c.args.chain.small c.requires.some c.requires.stands
 
-pub index-mut-requires : goal.index-mut-requires
-index-mut-requires c = first_fits c.args.self.now 11 (omega arith) c.requires.room
+pub index_mut-requires : goal.index_mut-requires
+index_mut-requires c = first_fits c.args.self.now 11 (omega arith) c.requires.room
 
-pub index-mut-requires-2 : goal.index-mut-requires-2
-index-mut-requires-2 c = behind_fits c.args.self.now c.args.chain.number c.args.gap.place c.args.gap.before c.args.chain.small c.requires.some c.requires.stands
+pub index_mut-requires-2 : goal.index_mut-requires-2
+index_mut-requires-2 c = behind_fits c.args.self.now c.args.chain.number c.args.gap.place c.args.gap.before c.args.chain.small c.requires.some c.requires.stands
 
-pub overflow-add-self : goal.overflow-add-self
-overflow-add-self c = omega (arith, both_fit c.args.self.now c.args.chain.number c.args.chain.small)
+pub overflow_add-self : goal.overflow_add-self
+overflow_add-self c = omega (arith, both_fit c.args.self.now c.args.chain.number c.args.chain.small)
 
 done : (c : After-pick-last) → After (vec_items c.args.self.now.cells) c.args.self.now.ends c.args.chain.number c.args.gap.place c.args.gap.before c.args.low c.args.high c.index-before.result.now c.index-spare.result.now c.pick-last.result
 done c =
@@ -30,11 +30,11 @@ done c =
     (read x _ c.index-spare.result.now (first_fits x 11 (omega arith) c.requires.room) c.index-spare.ensures)
     (sym c.pick-last.ensures)
 
-pub invariant-of-self : goal.invariant-of-self
-invariant-of-self c =
+pub invariant_of-self : goal.invariant_of-self
+invariant_of-self c =
     let x = c.args.self.now in
-    let m = done (goal.at.invariant-of-self c).After-pick-last in
-    (x.least, (x.most, (m.twelve, (m.running, (m.ending, (m.parted, (m.whole ∙ long x, tt)))))))
+    let m = done (goal.at.invariant_of-self c).After-pick-last in
+    record { least = x.least; most = x.most; twelve = m.twelve; running = m.running; ending = m.ending; parted = m.parted; whole = m.whole ∙ long x }
 
 pub returns : goal.returns
 returns c =

@@ -5,17 +5,17 @@ use Rattle.cells.specs.Held.{both_fit}
 use Rattle.cells.proofs.Replaces.{replaced, longer}
 use Rattle.cells.proofs.chains.Chains.replace.Goals as goal
 
-pub overflow-add-free : goal.overflow-add-free
-overflow-add-free c = omega (arith, both_fit c.args.self.now c.args.chain.number c.args.chain.small, c.requires.follow.inside, c.free.ensures, c.args.self.now.most)
+pub overflow_add-free : goal.overflow_add-free
+overflow_add-free c = omega (arith, both_fit c.args.self.now c.args.chain.number c.args.chain.small, c.requires.follow.inside, c.free.ensures, c.args.self.now.most)
 
 pub returns-then-free-run : goal.returns-then-free-run
 returns-then-free-run c =
     let r = c.args.run in
     let n = longer c.args.self.now c.args.chain.number r.gap.place r.number (one_or_none c.args.lower) (one_or_none c.args.upper) c.args.chain.small c.requires.follow.inside in
-    (refl, refl, omega (arith, n, c.free.ensures, c.how-many.ensures, c.how-many-2.ensures, c.if-free-run.true))
+    (refl, refl, omega (arith, n, c.free.ensures, c.how_many.ensures, c.how_many-2.ensures, c.if-free-run.true))
 
 pub returns : goal.returns
 returns c =
     let r = c.args.run in
-    replaced c.args.self.now c.remove.new.self c.insert-any.new.self c.insert-any-2.new.self c.args.chain.number r.gap.place r.number c.args.lower c.args.upper c.args.chain.small c.requires.follow.inside
-    c.remove.ensures.changed c.insert-any.ensures.changed c.insert-any-2.ensures.changed
+    replaced c.args.self.now c.remove.new.self c.insert_any.new.self c.insert_any-2.new.self c.args.chain.number r.gap.place r.number c.args.lower c.args.upper c.args.chain.small c.requires.follow.inside
+    c.remove.ensures.changed c.insert_any.ensures.changed c.insert_any-2.ensures.changed

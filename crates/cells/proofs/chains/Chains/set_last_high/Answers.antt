@@ -11,8 +11,8 @@ use Rattle.cells.proofs.chains.Chains.set_last_high.Goals.{After-index-cell}
 pub index-cell-requires : goal.index-cell-requires
 index-cell-requires c = last_fits c.args.self.now c.args.chain.number (omega (arith, c.args.chain.small)) c.requires
 
-pub index-mut-requires : goal.index-mut-requires
-index-mut-requires c = last_fits c.args.self.now c.args.chain.number (omega (arith, c.args.chain.small)) c.requires
+pub index_mut-requires : goal.index_mut-requires
+index_mut-requires c = last_fits c.args.self.now c.args.chain.number (omega (arith, c.args.chain.small)) c.requires
 
 done : (c : After-index-cell) → After (vec_items c.args.self.now.cells) c.args.self.now.ends c.args.chain.number (count_of c.args.self.now c.args.chain.number - 1) (ends c.args.self.now.ends c.args.chain.number).last c.index-cell.result.now.low c.args.high c.index-cell.result.now
 done c =
@@ -21,11 +21,11 @@ done c =
     written (vec_items x.cells) x.ends k (count_of x k - 1) (ends x.ends k).last c.index-cell.result.now.low c.args.high (linked x) x.twelve c.args.chain.small (omega (arith, c.requires)) (last_at x k c.args.chain.small c.requires)
     c.index-cell.result.now (read x _ c.index-cell.result.now (last_fits x k (omega (arith, c.args.chain.small)) c.requires) c.index-cell.ensures)
 
-pub invariant-of-self : goal.invariant-of-self
-invariant-of-self c =
+pub invariant_of-self : goal.invariant_of-self
+invariant_of-self c =
     let x = c.args.self.now in
-    let m = done (goal.at.invariant-of-self c).After-index-cell in
-    (x.least, (x.most, (m.twelve, (m.running, (m.ending, (m.parted, (m.whole ∙ long x, tt)))))))
+    let m = done (goal.at.invariant_of-self c).After-index-cell in
+    record { least = x.least; most = x.most; twelve = m.twelve; running = m.running; ending = m.ending; parted = m.parted; whole = m.whole ∙ long x }
 
 pub returns : goal.returns
 returns c =

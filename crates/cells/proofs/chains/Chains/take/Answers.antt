@@ -47,9 +47,9 @@ returns c =
     let first = read x r.first c.index-first.result.now (first_cell x k c.args.chain.small r.gap.place r.number r.first r.last e.first e.follow some) c.index-first.ensures in
     let last = read x r.last c.index-last.result.now (last_cell x k c.args.chain.small r.gap.place r.number r.first r.last e.first e.follow some) c.index-last.ensures in
     let changed = take_changes x k c.args.chain.small r.gap.place r.number r.first r.last e.first e.follow y c.requires g.low g.high law c.replace.result
-    (one_or_none c.part-below-lower.result) (one_or_none c.part-above-upper.result) some
+    (one_or_none c.part_below-lower.result) (one_or_none c.part_above-upper.result) some
     (subst (λ n. EndingBelow (ranges_of x k) n r.gap.place) c.low-low.ensures.value e.below) (subst (λ n. BeginningWithin (ranges_of x k) n r.gap.place r.number) c.high-high.ensures.value e.met)
-    (c.part-below-lower.ensures ∙ ap (λ n. cond (ltb c.index-first.result.now.low n) ((c.index-first.result.now.low, n - 1) ∷ []) []) c.low-low.ensures.value ∙ ap (λ z. cond (ltb z.low g.low) ((z.low, g.low - 1) ∷ []) []) (sym first))
-    (c.part-above-upper.ensures ∙ ap (λ n. cond (ltb n c.index-last.result.now.high) ((n + 1, c.index-last.result.now.high) ∷ []) []) c.high-high.ensures.value ∙ ap (λ z. cond (ltb g.high z.high) ((g.high + 1, z.high) ∷ []) []) (sym last))
+    (c.part_below-lower.ensures ∙ ap (λ n. cond (ltb c.index-first.result.now.low n) ((c.index-first.result.now.low, n - 1) ∷ []) []) c.low-low.ensures.value ∙ ap (λ z. cond (ltb z.low g.low) ((z.low, g.low - 1) ∷ []) []) (sym first))
+    (c.part_above-upper.ensures ∙ ap (λ n. cond (ltb n c.index-last.result.now.high) ((n + 1, c.index-last.result.now.high) ∷ []) []) c.high-high.ensures.value ∙ ap (λ z. cond (ltb g.high z.high) ((g.high + 1, z.high) ∷ []) []) (sym last))
     c.replace.ensures in
     record { order = order_if_it_fits x y k _ c.replace.result c.requires (removing_keeps_order 0 g.low g.high (ranges_of x k) g.rising c.requires) changed; changed = changed }

@@ -5,11 +5,11 @@ use Rattle.cells.specs.Meaning.{meaning}
 use Rattle.cells.specs.Meanings.{one_set, still_ordered}
 use Rattle.cells.proofs.range_store.CellStoreRangeStore.clear.Goals as goal
 
-pub invariant-of-self : goal.invariant-of-self
-invariant-of-self c = let x = c.args.self.now in (still_ordered x.chains c.clear.new.self c.chain-of.result.number [] x.ordered tt c.clear.ensures, tt)
+pub invariant_of-self : goal.invariant_of-self
+invariant_of-self c = let x = c.args.self.now in record { ordered = still_ordered x.chains c.clear.new.self c.chain_of.result.number [] x.ordered tt c.clear.ensures }
 
 pub returns : goal.returns
 returns c =
     let x = c.args.self.now in
-    let model = one_set x.chains c.clear.new.self c.chain-of.result.number c.args.set [] c.chain-of.ensures c.clear.ensures in
+    let model = one_set x.chains c.clear.new.self c.chain_of.result.number c.args.set [] c.chain_of.ensures c.clear.ensures in
     record { room = c.clear.ensures.room; model = model; members = emptied (meaning x) _ c.args.set model }

@@ -14,16 +14,16 @@ done c =
     let x = c.args.self.now in
     let y = c.clear.new.self in
     let z = c.exchange.new.self in
-    let a = c.chain-of-source in
-    let b = c.chain-of-target in
+    let a = c.chain_of-source in
+    let b = c.chain_of-target in
     let e = c.exchange.ensures in
     let ne : number c.args.from ≡ number c.args.to → ⊥ = λ i. c.if-source-target.true (a.ensures ∙ i ∙ sym b.ensures) in (
       moved_ordered x.chains y z c.args.from c.args.to ne a.result.number b.result.number a.ensures b.ensures c.clear.ensures e.one e.two e.others x.ordered,
       sets_moved x.chains y z c.args.from c.args.to ne a.result.number b.result.number a.ensures b.ensures c.clear.ensures e.one e.two e.others,
     )
 
-pub invariant-of-self : goal.invariant-of-self
-invariant-of-self c = ((done (goal.at.invariant-of-self c).After-exchange).0, tt)
+pub invariant_of-self : goal.invariant_of-self
+invariant_of-self c = record { ordered = (done (goal.at.invariant_of-self c).After-exchange).0 }
 
 pub returns-then-source-target : goal.returns-then-source-target
 returns-then-source-target c =
