@@ -1,5 +1,5 @@
 -- Every cell holds a range of a set, or is free.
-use Rattle.std.specs.Prelude.{◌≡◌, ℕ, zero, suc, ◌+◌, List, [], ◌∷◌, length, vec_len, refl}
+use Rattle.std.specs.Prelude.{◌≡◌, ℕ, zero, suc, ◌+◌, ◌≤◌, List, [], ◌∷◌, length, vec_len, refl}
 use Rattle.std.proofs.Common.{ap, ◌∙◌, arith, lit<}
 use Rattle.store.specs.Sets.{Model, number, total}
 use Rattle.cells.specs.declared.cell.Ends.{Ends}
@@ -46,3 +46,6 @@ all_used x =
       ranges_many x 9 (lit< tt),
       ranges_many x 10 (lit< tt),
     )
+
+pub all_fit : (x : Chains) → total (model_of x) ≤ vec_len x.cells
+all_fit x = omega (arith, all_used x)

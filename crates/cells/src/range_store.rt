@@ -4,8 +4,8 @@ ghost use Rattle.store.specs.Sets.{nothing, number};
 ghost use Rattle.cells.specs.Meaning.{meaning, limit_of};
 ghost use Rattle.store.proofs.Models.{number_small};
 ghost use Rattle.cells.specs.Meanings;
-ghost use Rattle.std.proofs.Common.{arith, rules};
-ghost use Rattle.cells.specs.Totals.{all_used};
+ghost use Rattle.std.proofs.Common.{rules};
+ghost use Rattle.cells.specs.Totals.{all_fit};
 
 use crate::cell::{Cell, CheckedCells};
 use crate::cells_store::CellStore;
@@ -50,9 +50,9 @@ impl RangeStore for CellStore {
 
     ghost canonical = { λ x set. Meanings.canonical x.chains x.ordered (number set) (number_small set) };
 
-    ghost fits = { λ x. omega (arith, all_used x.chains) };
+    ghost fits = { λ x. all_fit x.chains };
 
-    ghost limited = { first_of (Prim.search rules, Prim.grind (arith, Self.row.coded.inj)) };
+    ghost limited = { Prim.search rules };
 
     fn put(&mut self, set: SetName, range: Range) -> Result<(), StoreRefusal> {
         self.chains.put(chain_of(set), range)

@@ -6,7 +6,7 @@ use Rattle.std.proofs.lemmas.Bool.Decides.{nat_tests}
 use Rattle.std.proofs.lemmas.List.{drop_all, length-take-le}
 use Rattle.std.proofs.ByRecursion.{All-weaker}
 use Rattle.store.specs.Ids.{Lawful}
-use Rattle.store.specs.Ranges.{place, within, without_range}
+use Rattle.store.specs.Ranges.{within, without_range}
 use Rattle.store.proofs.Removing.{removing_keeps_order, removing_members}
 use Rattle.store.proofs.Members.{or_comm}
 use Rattle.rows.specs.declared.row.Row.{Row}

@@ -1,5 +1,5 @@
 -- What changes under labels are changes of the sets.
-use Rattle.std.specs.Prelude.{◌≡◌, ℕ, ◌+◌, ◌<◌, ◌≤◌, ◌⊎◌, List, [], ◌∷◌, length, set, Ok, Err, Result, OnOk, ◌≢◌, slice_index, slice_set}
+use Rattle.std.specs.Prelude.{◌≡◌, ℕ, ◌+◌, ◌<◌, ◌≤◌, List, [], ◌∷◌, length, Ok, Err, Result, OnOk, vec_len, ◌≢◌, slice_index, slice_set}
 use Rattle.std.proofs.Math.Path.{fun_ext, refl}
 use Rattle.std.proofs.Common.{sym, ap, subst, ◌∙◌, ⊎_elim, arith}
 use Rattle.std.proofs.lemmas.Bool.{cases_eq, cond-true, cond-false, eq-eqb, ne_eqb}
@@ -9,10 +9,13 @@ use Rattle.store.specs.Changes.{moved, GrantedIfItFits, Added, Removed}
 use Rattle.store.specs.declared.sets.SetName.{SetName}
 use Rattle.store.specs.declared.refusal.StoreRefusal.{StoreRefusal}
 use Rattle.store.proofs.Models.{number_small, set_of_number, total_follows, added, removed}
+use Rattle.rows.specs.declared.labels.Labels.{Labels}
 use Rattle.rows.specs.declared.row.Row.{Row}
+use Rattle.rows.specs.declared.table.Table.{Table}
 use Rattle.rows.specs.Labels.{Back}
 use Rattle.rows.specs.Rows.{ends_at, Rising, ranges}
-use Rattle.rows.specs.Tables.{Changed, ChangedIfItFits}
+use Rattle.rows.specs.Searches.{in_order, in_use}
+use Rattle.rows.specs.Tables.{rows_of, Changed, ChangedIfItFits}
 use Rattle.rows.specs.Meaning.{labelled}
 use Rattle.rows.specs.Swaps.{last_written, first_written, not_written, one_owner}
 
@@ -91,3 +94,7 @@ module _ {X : Type 0} (limit : ℕ) (before after : Model) (s : SetName) (lo hi 
   pub granted_removed : (r : Result X StoreRefusal) → GrantedIfItFits limit before (with_set before s (without_range lo hi (before s))) after r → OnOk r (Removed before after s lo hi)
   granted_removed (Ok x) h = removed before after s lo hi h.1 law
   granted_removed (Err e) h = tt
+
+-- all ranges together are the rows in use, so they fit
+pub all_fit : (t : Table) (l : Labels) → total (labelled l.label (rows_of t)) ≤ vec_len t.rows
+all_fit t l = omega (arith, t.fits, in_use t, all_counted l.label l.owner l.owned l.labelled 0 (rows_of t) (in_order t))

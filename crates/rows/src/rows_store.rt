@@ -2,10 +2,10 @@
 ghost use Rattle.std.specs.Prelude.{◌≡◌, vec_len};
 ghost use Rattle.store.specs.Sets.{nothing};
 ghost use Rattle.rows.specs.Meaning.{meaning, limit_of};
-ghost use Rattle.rows.specs.Searches.{in_order, in_use};
+ghost use Rattle.rows.specs.Searches.{in_order};
 ghost use Rattle.rows.specs.Spots.{ranges_canonical};
-ghost use Rattle.std.proofs.Common.{arith, rules};
-ghost use Rattle.rows.specs.Meanings.{all_counted};
+ghost use Rattle.std.proofs.Common.{rules};
+ghost use Rattle.rows.specs.Meanings.{all_fit};
 
 use crate::labels::Labels;
 use crate::row::{CheckedRows, Row};
@@ -51,7 +51,7 @@ impl RangeStore for RowStore {
 
     ghost canonical = { λ x set. ranges_canonical _ _ (in_order x.table) };
 
-    ghost fits = { λ x. omega (arith, x.table.fits, in_use x.table, all_counted x.labels.label x.labels.owner x.labels.owned x.labels.labelled 0 _ (in_order x.table)) };
+    ghost fits = { λ x. all_fit x.table x.labels };
 
     ghost limited = { Prim.search rules };
 

@@ -1,5 +1,5 @@
 -- IDs and ranges of IDs, as numbers.
-use Rattle.std.specs.Prelude.{◌≡◌, ℕ, ◌+◌, ◌/◌, ◌%◌, ◌^◌, ◌<◌, ◌≤◌}
+use Rattle.std.specs.Prelude.{◌≡◌, ℕ, ◌/◌, ◌%◌, ◌^◌, ◌<◌, ◌≤◌}
 
 -- an ID is the number REPLID × 2^48 + counter, with a REPLID of 1 to 65,535
 abbrev pub replid : ℕ → ℕ
