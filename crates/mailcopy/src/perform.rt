@@ -6,10 +6,10 @@ use crate::answer::Answer;
 use crate::call::StoreCall;
 use store::{RangeStore, StoreRefusal};
 
-fn told(res: Result<(), StoreRefusal>) -> Answer
-    ensures { result ≡ answer_of res }
+fn told(outcome: Result<(), StoreRefusal>) -> Answer
+    ensures { result ≡ answer_of outcome }
 {
-    match res {
+    match outcome {
         Ok(()) => Answer::Done,
         Err(refusal) => Answer::Refused(refusal.listed()),
     }
