@@ -4,7 +4,7 @@ use Rattle.std.proofs.lemmas.List.{get_or_read, drop_more, drop_all}
 use Rattle.cells.specs.declared.cell.Cell.{Cell}
 use Rattle.cells.specs.declared.chains.Chains.{Chains}
 use Rattle.cells.specs.Links.{cell, ends, path, final, span, spans}
-use Rattle.cells.specs.Chains.{numbers_of, count_of, ranges_of, Stands, Goes_on, Changed}
+use Rattle.cells.specs.Chains.{numbers_of, count_of, ranges_of, Stands, GoesOn, Changed}
 use Rattle.cells.specs.Places.{at_place}
 use Rattle.cells.specs.Relinks.{Made}
 use Rattle.cells.specs.Held.{long, many, ranges_many, place_fits, changed}
@@ -42,10 +42,10 @@ module _ (x y : Chains) (k : ℕ) (h : k < 11) (pos : 0 < count_of x k) (l : Lis
 
 -- the number that so many steps from the first cell lead to
 module _ (x : Chains) (k : ℕ) (h : k < 11) where
-  pub at_start : Goes_on x k 0 (ends x.ends k).first
+  pub at_start : GoesOn x k 0 (ends x.ends k).first
   at_start = record { inside = omega arith; rest = let e : count_of x k ≡ count_of x k - 0 = omega arith in ap (λ n. path (vec_items x.cells) n (ends x.ends k).first) e }
 
-  module _ (i at : ℕ) (w : Goes_on x k i at) (l : i < count_of x k) where
+  module _ (i at : ℕ) (w : GoesOn x k i at) (l : i < count_of x k) where
     here : drop i (numbers_of x k) ≡ at ∷ path (vec_items x.cells) (count_of x k - (i + 1)) (cell (vec_items x.cells) at).next
     here = w.rest ∙ (let e : count_of x k - i ≡ suc (count_of x k - (i + 1)) = omega arith in ap (λ n. path (vec_items x.cells) n at) e)
 
@@ -66,7 +66,7 @@ module _ (x : Chains) (k : ℕ) (h : k < 11) where
       read_at : cell (vec_items x.cells) at ≡ c
       read_at = sym (get_or_read (vec_items x.cells) at c (omega (arith, at_fits, long x)) r _)
 
-      pub step : Goes_on x k (i + 1) c.next
+      pub step : GoesOn x k (i + 1) c.next
       step = record { inside = omega arith; rest = rest_is ∙ ap (λ z. path (vec_items x.cells) (count_of x k - (i + 1)) z.next) read_at }
 
       pub range_is : at_place (ranges_of x k) i ≡ (c.low, c.high)
@@ -76,7 +76,7 @@ module _ (x : Chains) (k : ℕ) (h : k < 11) where
       stand_behind = record { inside = omega arith; behind = λ _. (let e : i + 1 - 1 ≡ i = omega arith in ap (λ n. get_or (numbers_of x k) n 0) e) ∙ at_is }
 
   -- the gap behind the last cell
-  pub at_last : 0 < count_of x k → (c : Cell) → c ≡ get_or (vec_items x.cells) (ends x.ends k).last c → Goes_on x k (count_of x k) c.next
+  pub at_last : 0 < count_of x k → (c : Cell) → c ≡ get_or (vec_items x.cells) (ends x.ends k).last c → GoesOn x k (count_of x k) c.next
   at_last p c r =
       let z : count_of x k - count_of x k ≡ 0 = omega arith in
       record { inside = omega arith; rest = drop_all (count_of x k) (numbers_of x k) (omega (arith, many x k (omega arith))) ∙ ap (λ n. path (vec_items x.cells) n c.next) (sym z) }

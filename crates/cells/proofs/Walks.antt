@@ -5,7 +5,7 @@ use Rattle.store.specs.Ranges.{Canonical}
 use Rattle.cells.specs.declared.cell.Cell.{Cell}
 use Rattle.cells.specs.declared.chains.Chains.{Chains}
 use Rattle.cells.specs.Links.{ends}
-use Rattle.cells.specs.Chains.{numbers_of, count_of, ranges_of, Stands, Follow, Goes_on}
+use Rattle.cells.specs.Chains.{numbers_of, count_of, ranges_of, Stands, Follow, GoesOn}
 use Rattle.cells.specs.Places.{at_place, EndingBelow, BeginningWithin}
 use Rattle.cells.specs.Held.{ranges_many, last_fits, read}
 use Rattle.cells.specs.Finds.{all_below_last}
@@ -20,15 +20,15 @@ abbrev pub Met : Chains → ℕ → ℕ → ℕ → ℕ → Type 0
 Met x k high i m = (j : ℕ) → i ≤ j → j < i + m → (at_place (ranges_of x k) j).0 ≤ high
 
 module _ (x : Chains) (k : ℕ) (h : k < 11) where
-  pub begun : (n : ℕ) → Goes_on x k 0 (ends x.ends k).first × Stands x k 0 (ends x.ends k).first × Passed x k n 0
+  pub begun : (n : ℕ) → GoesOn x k 0 (ends x.ends k).first × Stands x k 0 (ends x.ends k).first × Passed x k n 0
   begun n = (at_start x k h, record { inside = omega arith; behind = λ p. absurd (omega arith) }, λ j l. absurd (omega arith))
 
   module _ (n i : ℕ) (p : Passed x k n i) where
     pub at_end : i ≤ count_of x k → count_of x k ≤ i → EndingBelow (ranges_of x k) n i
     at_end a b = record { inside = omega (arith, ranges_many x k (omega arith)); passed = p; stops = λ l. absurd (omega (arith, ranges_many x k (omega arith))) }
 
-    module _ (at : ℕ) (w : Goes_on x k i at) (l : i < count_of x k) (c : Cell) (r : c ≡ get_or (vec_items x.cells) at c) where
-      pub passed : c.high < n → Goes_on x k (i + 1) c.next × Stands x k (i + 1) at × Passed x k n (i + 1)
+    module _ (at : ℕ) (w : GoesOn x k i at) (l : i < count_of x k) (c : Cell) (r : c ≡ get_or (vec_items x.cells) at c) where
+      pub passed : c.high < n → GoesOn x k (i + 1) c.next × Stands x k (i + 1) at × Passed x k n (i + 1)
       passed b = (
         step x k h i at w l c r,
         stand_behind x k h i at w l c r,
@@ -48,21 +48,21 @@ module _ (x : Chains) (k : ℕ) (h : k < 11) where
       subst (EndingBelow (ranges_of x k) n) many
       (all_below_last (ranges_of x k) n f (omega (arith, many)) (subst (λ m. (at_place (ranges_of x k) (m - 1)).1 < n) (sym many) (subst (λ s. s.1 < n) (sym is) b)))
 
-  pub none_met : (high i at : ℕ) → Goes_on x k i at → Goes_on x k (i + 0) at × Follow x k i 0 at × Met x k high i 0
+  pub none_met : (high i at : ℕ) → GoesOn x k i at → GoesOn x k (i + 0) at × Follow x k i 0 at × Met x k high i 0
   none_met high i at w =
       let z : i ≡ i + 0 = omega arith in
-      (subst (λ t. Goes_on x k t at) z w, record { inside = omega (arith, w.inside); ends_in = λ p. absurd (omega arith) }, λ j a b. absurd (omega arith))
+      (subst (λ t. GoesOn x k t at) z w, record { inside = omega (arith, w.inside); ends_in = λ p. absurd (omega arith) }, λ j a b. absurd (omega arith))
 
   module _ (high i m : ℕ) (p : Met x k high i m) where
     pub met_end : i + m ≤ count_of x k → count_of x k ≤ i + m → BeginningWithin (ranges_of x k) high i m
     met_end a b = record { inside = omega (arith, ranges_many x k (omega arith)); met = p; stops = λ l. absurd (omega (arith, ranges_many x k (omega arith))) }
 
-    module _ (at : ℕ) (w : Goes_on x k (i + m) at) (l : i + m < count_of x k) (c : Cell) (r : c ≡ get_or (vec_items x.cells) at c) where
-      pub met_more : c.low ≤ high → Goes_on x k (i + (m + 1)) c.next × Follow x k i (m + 1) at × Met x k high i (m + 1)
+    module _ (at : ℕ) (w : GoesOn x k (i + m) at) (l : i + m < count_of x k) (c : Cell) (r : c ≡ get_or (vec_items x.cells) at c) where
+      pub met_more : c.low ≤ high → GoesOn x k (i + (m + 1)) c.next × Follow x k i (m + 1) at × Met x k high i (m + 1)
       met_more b =
           let z : i + m + 1 ≡ i + (m + 1) = omega arith in
           let y : i + (m + 1) - 1 ≡ i + m = omega arith in (
-            subst (λ t. Goes_on x k t c.next) z (step x k h (i + m) at w l c r),
+            subst (λ t. GoesOn x k t c.next) z (step x k h (i + m) at w l c r),
             record { inside = omega arith; ends_in = λ _. ap (λ t. get_or (numbers_of x k) t 0) y ∙ at_is x k h (i + m) at w l },
             λ j a q. ⊎_elim
                 (λ (e : j ≡ i + m). subst (λ t. (at_place (ranges_of x k) t).0 ≤ high) (sym e) (subst (λ s. s.0 ≤ high) (sym (range_is x k h (i + m) at w l c r)) b))

@@ -30,7 +30,7 @@ pub record Follow (x : Chains) (k place number last : ℕ) : Type 0 where
   pub ends_in : 0 < number → slice_index (numbers_of x k) (place + number - 1) ≡ last
 
 -- what stands behind a gap: from `at` on goes the rest of the chain
-pub record Goes_on (x : Chains) (k place at : ℕ) : Type 0 where
+pub record GoesOn (x : Chains) (k place at : ℕ) : Type 0 where
   pub inside : place ≤ count_of x k
   pub rest : drop place (numbers_of x k) ≡ path (vec_items x.cells) (count_of x k - place) at
 

@@ -1,5 +1,5 @@
 // A range put into a set's chain, and taken out of it.
-ghost use Rattle.std.specs.Prelude.{◌≡◌, ℕ, ◌+◌, ◌-◌, ◌<◌, ◌≤◌, min, max, true, false, ltb, [], ◌∷◌, ◌++◌, length, take, drop, if◌then◌else◌, vec_len, nat_lt};
+ghost use Rattle.std.specs.Prelude.{◌≡◌, ℕ, ◌+◌, ◌-◌, ◌<◌, ◌≤◌, min, max, true, false, [], ◌∷◌, ◌++◌, length, take, drop, if◌then◌else◌, vec_len, nat_lt};
 ghost use Rattle.store.specs.Ranges.{Canonical, apart, with_range, without_range};
 ghost use Rattle.cells.specs.Links.{cell};
 ghost use Rattle.cells.specs.Chains.{ranges_of, free_of, Stands, Follow, Changed, ChangedIfItFits};
@@ -29,7 +29,7 @@ fn adjoining_above(high: u64) -> u64
 
 // What is left of a range below `low`.
 fn part_below(cell: Cell, low: u64) -> Option<(u64, u64)>
-    ensures { one_or_none result ≡ (if ltb cell.low low then (cell.low, low - 1) ∷ [] else []) }
+    ensures { one_or_none result ≡ (if nat_lt cell.low low then (cell.low, low - 1) ∷ [] else []) }
 {
     if cell.low < low {
         Some((cell.low, low - 1))
@@ -40,7 +40,7 @@ fn part_below(cell: Cell, low: u64) -> Option<(u64, u64)>
 
 // What is left of a range above `high`.
 fn part_above(cell: Cell, high: u64) -> Option<(u64, u64)>
-    ensures { one_or_none result ≡ (if ltb high cell.high then (high + 1, cell.high) ∷ [] else []) }
+    ensures { one_or_none result ≡ (if nat_lt high cell.high then (high + 1, cell.high) ∷ [] else []) }
 {
     if high < cell.high {
         Some((high + 1, cell.high))

@@ -1,7 +1,7 @@
 // Walks along a chain, and what is asked of a set.
 ghost use Rattle.std.specs.Prelude.{◌≡◌, ◌<◌, slice_index};
 ghost use Rattle.store.specs.Ranges.{Canonical, has, next_range};
-ghost use Rattle.cells.specs.Chains.{numbers_of, ranges_of, Stands, Follow, Goes_on};
+ghost use Rattle.cells.specs.Chains.{numbers_of, ranges_of, Stands, Follow, GoesOn};
 ghost use Rattle.cells.specs.Places.{EndingBelow, BeginningWithin};
 
 use crate::chains::{Chain, Chains, Gap, Run};
@@ -18,7 +18,7 @@ impl Chains {
     fn ending_below(&self, chain: Chain, n: u64) -> Spot
         requires { Canonical (ranges_of self.now chain.number) }
         ensures stands { Stands self.now chain.number result.gap.place result.gap.before }
-        ensures on { Goes_on self.now chain.number result.gap.place result.at }
+        ensures on { GoesOn self.now chain.number result.gap.place result.at }
         ensures below { EndingBelow (ranges_of self.now chain.number) n result.gap.place }
     {
         let ends = self.ends[chain.number];
@@ -40,7 +40,7 @@ impl Chains {
     // The same from the first cell on.
     fn walk_to(&self, chain: Chain, n: u64) -> Spot
         ensures stands { Stands self.now chain.number result.gap.place result.gap.before }
-        ensures on { Goes_on self.now chain.number result.gap.place result.at }
+        ensures on { GoesOn self.now chain.number result.gap.place result.at }
         ensures below { EndingBelow (ranges_of self.now chain.number) n result.gap.place }
     {
         let set = chain.number;
