@@ -13,7 +13,7 @@ module _ (cs : List Cell) (es : List Ends) (s n p : ℕ) (a b : List ℕ) (v : C
   x = record { first = (cell cs p).next; last = (ends es s).last; count = (ends es s).count - (n) }
 
   abbrev pub y : Ends
-  y = record { first = (ends es s).first; last = cond (eqb (ends es 11).count 0) p (ends es 11).last; count = (ends es 11).count + (n) }
+  y = record { first = (ends es s).first; last = cond (eqb (ends es 11).count 0) p (ends es 11).last; count = (ends es 11).count + n }
 
   pub behead : Linked cs es → length es ≡ 12 → s < 11 → numbers cs es s ≡ a ++ p ∷ b → length a + 1 ≡ n → v.next ≡ (ends es 11).first → Change cs (set cs p v) es s 11 x y b (a ++ p ∷ numbers cs es 11)
   behead g long h is an vn = record {

@@ -25,7 +25,7 @@ one_set x y k set rs e c = fun_ext (λ t. ⊎_elim
 -- and is granted, or refused, as one; where it is granted, what the change means holds
 pub granted : {X : Type 0} (x y : Chains) (k : ℕ) (set : SetName) (change : List Span → List Span) (r : Result X StoreRefusal) (Means : Type 0) → k ≡ number set → ChangedIfItFits x y k (change (ranges_of x k)) r
     → (model_of y ≡ with_set (model_of x) set (change (model_of x set)) → Means)
-    → GrantedIfItFits (vec_len x.cells) (model_of x) (with_set (model_of x) set (change (model_of x set))) (model_of y) r × OnOk r (Means)
+    → GrantedIfItFits (vec_len x.cells) (model_of x) (with_set (model_of x) set (change (model_of x set))) (model_of y) r × OnOk r Means
 granted x y k set change (Ok v) Means e c means =
     let is = one_set x y k set (change (model_of x set)) e (subst (λ n. Changed x y k (change (ranges_of x n))) e c) in
     ((omega (arith, ap total is, all_used y, c.room), is), means is)

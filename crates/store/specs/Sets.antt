@@ -34,7 +34,7 @@ nothing set = []
 
 -- the same sets but for one
 abbrev pub with_set : Model → SetName → List Span → Model
-with_set m set ranges other = cond (number other == (number set)) ranges (m other)
+with_set m set ranges other = cond (number other == number set) ranges (m other)
 
 -- how many maximal ranges all sets have together
 unfoldable pub total : Model → ℕ
