@@ -6,18 +6,19 @@ ghost use Rattle.store.specs.Refusals.{listed, wrong_row_count};
 use crate::refusal::StoreRefusal;
 
 /// A store's limit: the number of its rows or cells, 64 to 65,535.
-#[derive(Clone, Copy)]
+#[derive(Clone, Copy, Debug, PartialEq, Eq)]
 pub struct Limit {
     ranges: usize,
-    ghost least: { 64 ≤ ranges },
-    ghost most: { ranges ≤ 65535 },
+    ghost lawful: { MayBeLimit ranges },
 }
 
-impl Limit {
-    /// The limit of a store of so many rows or cells; refused below 64 and above 65,535.
-    pub fn new(ranges: u64) -> Result<Limit, StoreRefusal>
-        ensures { MatchResult result (λ x. MayBeLimit ranges × (x.ranges ≡ ranges)) (λ e. (listed e ≡ wrong_row_count) × (MayBeLimit ranges → ⊥)) }
-    {
+/// The limit of a store of so many rows or cells; refused below 64 and above 65,535.
+impl TryFrom<u64> for Limit {
+    type Error = StoreRefusal;
+
+    ghost try_from_gives = { λ n r. MatchResult r (λ x. MayBeLimit n × (x.ranges ≡ n)) (λ e. (listed e ≡ wrong_row_count) × (MayBeLimit n → ⊥)) };
+
+    fn try_from(ranges: u64) -> Result<Limit, StoreRefusal> {
         if ranges >= 64 && ranges <= 65535 {
             Ok(Limit {
                 ranges: ranges as usize,
@@ -26,7 +27,9 @@ impl Limit {
             Err(StoreRefusal::RowCount)
         }
     }
+}
 
+impl Limit {
     /// The number of ranges.
     pub fn ranges(self) -> usize
         ensures value { result ≡ self.ranges }

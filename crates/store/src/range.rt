@@ -6,7 +6,7 @@ ghost use Rattle.store.specs.Ids.{Lawful, replid};
 pub const COUNTERS: u64 = 0x1_0000_0000_0000;
 
 /// The IDs from `low` to `high`, all of one REPLID.
-#[derive(Clone, Copy)]
+#[derive(Clone, Copy, Debug, PartialEq, Eq)]
 pub struct Range {
     low: u64,
     high: u64,

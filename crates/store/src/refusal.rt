@@ -2,6 +2,9 @@
 ghost use Rattle.std.specs.Prelude.{◌≡◌};
 ghost use Rattle.store.specs.Refusals.{listed};
 
+use std::error::Error;
+use std::fmt;
+
 /// The layers of the engine, from the lowest up.
 #[derive(Clone, Copy, Debug, PartialEq, Eq)]
 pub enum Layer {
@@ -12,11 +15,30 @@ pub enum Layer {
     Copy,
 }
 
+impl fmt::Display for Layer {
+    fn fmt<W: fmt::Write>(&self, f: &mut fmt::Formatter<W>) -> fmt::Result {
+        f.write_str(match self {
+            Layer::Store => "store",
+            Layer::Set => "set",
+            Layer::Element => "element",
+            Layer::Record => "record",
+            Layer::Copy => "copy",
+        })
+    }
+}
+
 /// A refusal's number in the list of refusals, and the layer it comes from.
 #[derive(Clone, Copy, Debug, PartialEq, Eq)]
 pub struct Refusal {
     pub number: u8,
     pub layer: Layer,
+}
+
+/// The number and the layer, as in `25 store`.
+impl fmt::Display for Refusal {
+    fn fmt<W: fmt::Write>(&self, f: &mut fmt::Formatter<W>) -> fmt::Result {
+        write!(f, "{} {}", self.number, self.layer)
+    }
 }
 
 /// Why the store layer refuses.
@@ -28,12 +50,11 @@ pub enum StoreRefusal {
     Full,
 }
 
-impl StoreRefusal {
-    /// The refusal's number and layer.
-    pub fn listed(self) -> Refusal
-        ensures { result ≡ listed self }
-    {
-        let number = match self {
+impl From<StoreRefusal> for Refusal {
+    ghost from_gives = { λ e r. r ≡ listed e };
+
+    fn from(refusal: StoreRefusal) -> Refusal {
+        let number = match refusal {
             StoreRefusal::RowCount => 1,
             StoreRefusal::Full => 25,
         };
@@ -43,3 +64,14 @@ impl StoreRefusal {
         }
     }
 }
+
+impl fmt::Display for StoreRefusal {
+    fn fmt<W: fmt::Write>(&self, f: &mut fmt::Formatter<W>) -> fmt::Result {
+        f.write_str(match self {
+            StoreRefusal::RowCount => "a store has 64 to 65,535 rows or cells",
+            StoreRefusal::Full => "the ranges of all sets would be more than the store's limit",
+        })
+    }
+}
+
+impl Error for StoreRefusal {}

@@ -1,11 +1,12 @@
 // What every store of ranges does: its meaning, what always holds of it, and what each call answers and leaves.
-ghost use Rattle.std.specs.Prelude.{◌≡◌, ℕ, ◌≤◌, OnOk};
+ghost use Rattle.std.specs.Prelude.{◌≡◌, ℕ, ◌≤◌, vec_len, OnOk};
 ghost use Rattle.store.specs.Limits.{MayBeLimit};
 ghost use Rattle.store.specs.Ranges.{Canonical, has, next_range, LowestOrNone};
-ghost use Rattle.store.specs.Sets.{Model, total};
+ghost use Rattle.store.specs.Sets.{Model, nothing, total};
 ghost use Rattle.store.specs.Changes.{put_into, taken_from, moved, cleared, GrantedIfItFits, Added, Removed, Moved, Emptied};
 ghost use Rattle.store.specs.declared.sets.SetName.{SetName as Name};
 
+use crate::memory::Memory;
 use crate::range::Range;
 use crate::refusal::StoreRefusal;
 use crate::sets::SetName;
@@ -44,7 +45,10 @@ pub trait RangeStore {
 
     /// Whether the number is an ID in the set.
     fn holds(&self, set: SetName, id: u64) -> bool
-        ensures { result ≡ has (model self.now set) id };
+        ensures { result ≡ has (model self.now set) id }
+    {
+        self.next(set, id).is_some_and(|(low, _)| low <= id)
+    }
 
     /// The lowest maximal range of the set whose high end is not below `n`, as its lowest and highest ID.
     fn next(&self, set: SetName, n: u64) -> Option<(u64, u64)>
@@ -64,4 +68,19 @@ pub trait RangeStore {
     ghost fits: { (x : Self) → total (model x) ≤ room x };
 
     ghost limited: { (x : Self) → MayBeLimit (room x) };
+}
+
+/// A store in memory that the caller hands over, and may have back.
+pub trait InMemory: RangeStore {
+    /// The memory of one range.
+    type Place;
+
+    /// A store in this memory with every set empty, whatever is in it. Its limit is the number of places.
+    fn new(memory: Memory<Self::Place>) -> Self
+        ensures empty { Self.model result ≡ nothing }
+        ensures limit { Self.room result ≡ vec_len memory.places };
+
+    /// The memory back, as the store leaves it.
+    fn into_places(self) -> Vec<Self::Place>
+        ensures number { vec_len result ≡ Self.room self };
 }
