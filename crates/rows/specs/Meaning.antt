@@ -15,4 +15,4 @@ meaning store = labelled store.labels.label (rows_of store.table)
 
 -- as many ranges as rows were handed over
 abbrev pub limit_of : RowStore → ℕ
-limit_of store = vec_len store.table.rows
+limit_of store = vec_len store.table.memory.places

@@ -96,5 +96,5 @@ module _ {X : Type 0} (limit : ℕ) (before after : Model) (s : SetName) (lo hi 
   granted_removed (Err e) h = tt
 
 -- all ranges together are the rows in use, so they fit
-pub all_fit : (t : Table) (l : Labels) → total (labelled l.label (rows_of t)) ≤ vec_len t.rows
+pub all_fit : (t : Table) (l : Labels) → total (labelled l.label (rows_of t)) ≤ vec_len t.memory.places
 all_fit t l = omega (arith, t.fits, in_use t, all_counted l.label l.owner l.owned l.labelled 0 (rows_of t) (in_order t))

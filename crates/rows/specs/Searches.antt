@@ -27,12 +27,12 @@ module _ (t : Table) where
   in_order = rising_from 0 (rows_of t) t.rises
 
   pub in_use : length (rows_of t) ≡ t.used
-  in_use = length-take-le t.used t.rows.items (omega (arith, t.fits, t.rows.ok.0))
+  in_use = length-take-le t.used t.memory.places.items (omega (arith, t.fits, t.memory.places.ok.0))
 
-  pub read : (k : ℕ) (r : Row) → k < t.used → r ≡ slice_index_or t.rows.items k r → (d : Row) → slice_index_or (rows_of t) k d ≡ r
-  read k r h e d = get_or-take t.used t.rows.items k d h ∙ get_or_default t.rows.items k d r (omega (arith, t.fits, t.rows.ok.0)) ∙ sym e
+  pub read : (k : ℕ) (r : Row) → k < t.used → r ≡ slice_index_or t.memory.places.items k r → (d : Row) → slice_index_or (rows_of t) k d ≡ r
+  read k r h e d = get_or-take t.used t.memory.places.items k d h ∙ get_or_default t.memory.places.items k d r (omega (arith, t.fits, t.memory.places.ok.0)) ∙ sym e
 
-  pub read_rest : (k : ℕ) (r : Row) → k < t.used → r ≡ slice_index_or t.rows.items k r → drop k (rows_of t) ≡ r ∷ drop (k + 1) (rows_of t)
+  pub read_rest : (k : ℕ) (r : Row) → k < t.used → r ≡ slice_index_or t.memory.places.items k r → drop k (rows_of t) ≡ r ∷ drop (k + 1) (rows_of t)
   read_rest k r h e = drop_more (rows_of t) k r (omega (arith, in_use)) ∙ ap (λ x. x ∷ drop (k + 1) (rows_of t)) (read k r h e r)
 
   pub no_rest : (k : ℕ) → t.used ≤ k → drop k (rows_of t) ≡ []
@@ -40,10 +40,10 @@ module _ (t : Table) where
 
 -- a row in the middle, and the spot that it is held against
 module _ (t : Table) (at : ℕ) where
-  pub low_half : (m : ℕ) (r : Row) → m < t.used → r ≡ slice_index_or t.rows.items m r → ends_at r < at → (k : ℕ) (d : Row) → k < m + 1 → ends_at (slice_index_or (rows_of t) k d) < at
+  pub low_half : (m : ℕ) (r : Row) → m < t.used → r ≡ slice_index_or t.memory.places.items m r → ends_at r < at → (k : ℕ) (d : Row) → k < m + 1 → ends_at (slice_index_or (rows_of t) k d) < at
   low_half m r h e lt k d b = omega (arith, ends_rise 0 (rows_of t) k m d (in_order t) (omega arith) (omega (arith, in_use t)), ap ends_at (read t m r h e d))
 
-  pub high_half : (m : ℕ) (r : Row) → m < t.used → r ≡ slice_index_or t.rows.items m r → at ≤ ends_at r → (k : ℕ) (d : Row) → m ≤ k → k < t.used → at ≤ ends_at (slice_index_or (rows_of t) k d)
+  pub high_half : (m : ℕ) (r : Row) → m < t.used → r ≡ slice_index_or t.memory.places.items m r → at ≤ ends_at r → (k : ℕ) (d : Row) → m ≤ k → k < t.used → at ≤ ends_at (slice_index_or (rows_of t) k d)
   high_half m r h e le k d b c = omega (arith, ends_rise 0 (rows_of t) m k d (in_order t) b (omega (arith, in_use t)), ap ends_at (read t m r h e d))
 
   pub all_before : (i : ℕ) → i ≤ t.used → ((k : ℕ) (d : Row) → k < i → ends_at (slice_index_or (rows_of t) k d) < at) → AllByRecursion (λ r. ends_at r < at) (take i (rows_of t))
@@ -69,7 +69,7 @@ module _ (t : Table) (at i : ℕ) (before : AllByRecursion (λ r. ends_at r < at
   pub none_later : t.used ≤ i → AllByRecursion (λ x. at ≤ begins_at x) (drop i (rows_of t))
   none_later h = subst (AllByRecursion (λ x. at ≤ begins_at x)) (sym (no_rest t i h)) tt
 
-  module _ (r : Row) (h : i < t.used) (e : r ≡ slice_index_or t.rows.items i r) where
+  module _ (r : Row) (h : i < t.used) (e : r ≡ slice_index_or t.memory.places.items i r) where
     pub here : Rising 0 (r ∷ drop (i + 1) (rows_of t))
     here = subst (Rising 0) (read_rest t i r h e) (rising_rest 0 i (rows_of t) (in_order t))
 

@@ -50,7 +50,7 @@ module _ (t : Table) (s n i at : ℕ) (is_at : at ≡ spot s n) (found : AllByRe
   pub next_none : t.used ≤ i → None ≡ next_range (ranges s (rows_of t)) n
   next_none h = sym (from_here ∙ ap (λ l. next_range (ranges s l) n) (no_rest t i h))
 
-  module _ (r : Row) (h : i < t.used) (e : r ≡ slice_index_or t.rows.items i r) (small : n < 2 ^ 64) (after : AllByRecursion (λ x. at ≤ ends_at x) (drop i (rows_of t))) where
+  module _ (r : Row) (h : i < t.used) (e : r ≡ slice_index_or t.memory.places.items i r) (small : n < 2 ^ 64) (after : AllByRecursion (λ x. at ≤ ends_at x) (drop i (rows_of t))) where
     late : spot s n ≤ ends_at r
     late = subst (λ x. x ≤ ends_at r) is_at (ends_late t at i found r h e after)
 

@@ -9,7 +9,7 @@ use Rattle.rows.specs.Rows.{Rising, ranges}
 
 -- the rows in use
 abbrev pub rows_of : Table → List Row
-rows_of t = take t.used (vec_items t.rows)
+rows_of t = take t.used (vec_items t.memory.places)
 
 -- a row, or none
 abbrev pub maybe : Bool → Row → List Row

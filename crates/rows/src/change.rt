@@ -13,8 +13,8 @@ use store::{Range, StoreRefusal};
 impl Table {
     /// Puts the range's IDs under the label; refused as full where that takes more rows than there are.
     pub(crate) fn put(&mut self, label: Label, range: Range) -> Result<(), StoreRefusal>
-        ensures len { vec_len self.new.rows ≡ vec_len self.old.rows }
-        ensures rows { ChangedIfItFits (vec_len self.old.rows) (rows_of self.old) label.value (with_range range.low range.high (ranges label.value (rows_of self.old))) (rows_of self.new) result }
+        ensures len { vec_len self.new.memory.places ≡ vec_len self.old.memory.places }
+        ensures rows { ChangedIfItFits (vec_len self.old.memory.places) (rows_of self.old) label.value (with_range range.low range.high (ranges label.value (rows_of self.old))) (rows_of self.new) result }
     {
         let from = self.ending_before(spot(label.value, range.low()) - 1);
         let to = self.beginning_before(spot(label.value, range.high()) + 2);
@@ -37,8 +37,8 @@ impl Table {
                 high,
             };
         }
-        let first = self.rows[from];
-        let last = self.rows[to - 1];
+        let first = self.memory.places[from];
+        let last = self.memory.places[to - 1];
         Row {
             label: label.value,
             low: low.min(first.low),
@@ -48,21 +48,21 @@ impl Table {
 
     /// Takes the range's IDs from under the label; refused as full where that takes more rows than there are.
     pub(crate) fn take(&mut self, label: Label, range: Range) -> Result<(), StoreRefusal>
-        ensures len { vec_len self.new.rows ≡ vec_len self.old.rows }
-        ensures rows { ChangedIfItFits (vec_len self.old.rows) (rows_of self.old) label.value (without_range range.low range.high (ranges label.value (rows_of self.old))) (rows_of self.new) result }
+        ensures len { vec_len self.new.memory.places ≡ vec_len self.old.memory.places }
+        ensures rows { ChangedIfItFits (vec_len self.old.memory.places) (rows_of self.old) label.value (without_range range.low range.high (ranges label.value (rows_of self.old))) (rows_of self.new) result }
     {
         let from = self.ending_before(spot(label.value, range.low()));
         let to = self.beginning_before(spot(label.value, range.high()) + 1);
         if from >= to {
             return Ok(());
         }
-        let left = left_over(label.value, range, self.rows[from], self.rows[to - 1]);
+        let left = left_over(label.value, range, self.memory.places[from], self.memory.places[to - 1]);
         self.replace_if_it_fits(from, to, &left.rows[left.start..left.end])
     }
 
     /// Takes all from under the label.
     pub(crate) fn clear(&mut self, label: Label)
-        ensures len { vec_len self.new.rows ≡ vec_len self.old.rows }
+        ensures len { vec_len self.new.memory.places ≡ vec_len self.old.memory.places }
         ensures rows { Changed (rows_of self.old) label.value [] (rows_of self.new) }
     {
         let from = self.ending_before(spot(label.value, 0));

@@ -29,12 +29,12 @@ impl Table {
     pub(crate) fn replace(&mut self, from: usize, to: usize, new: &[Row])
         requires up { from ≤ to }
         requires to { to ≤ self.old.used }
-        requires room { from + length new.now + (self.old.used - to) ≤ vec_len self.old.rows }
+        requires room { from + length new.now + (self.old.used - to) ≤ vec_len self.old.memory.places }
         requires rising { Rising 0 (take from (rows_of self.old) ++ (new.now ++ drop to (rows_of self.old))) }
-        ensures len { vec_len self.new.rows ≡ vec_len self.old.rows }
+        ensures len { vec_len self.new.memory.places ≡ vec_len self.old.memory.places }
         ensures rows { rows_of self.new ≡ take from (rows_of self.old) ++ (new.now ++ drop to (rows_of self.old)) }
     {
-        splice(&mut self.rows, self.used, from, to, new);
+        splice(&mut self.memory.places, self.used, from, to, new);
         self.used = from + new.len() + (self.used - to);
     }
 
@@ -49,10 +49,10 @@ impl Table {
         requires up { from ≤ to }
         requires to { to ≤ self.old.used }
         requires rising { Rising 0 (take from (rows_of self.old) ++ (new.now ++ drop to (rows_of self.old))) }
-        ensures len { vec_len self.new.rows ≡ vec_len self.old.rows }
-        ensures rows { MatchResult result (λ _. rows_of self.new ≡ take from (rows_of self.old) ++ (new.now ++ drop to (rows_of self.old))) (λ e. (listed e ≡ store_full) × (rows_of self.new ≡ rows_of self.old) × (vec_len self.old.rows < length (take from (rows_of self.old) ++ (new.now ++ drop to (rows_of self.old))))) }
+        ensures len { vec_len self.new.memory.places ≡ vec_len self.old.memory.places }
+        ensures rows { MatchResult result (λ _. rows_of self.new ≡ take from (rows_of self.old) ++ (new.now ++ drop to (rows_of self.old))) (λ e. (listed e ≡ store_full) × (rows_of self.new ≡ rows_of self.old) × (vec_len self.old.memory.places < length (take from (rows_of self.old) ++ (new.now ++ drop to (rows_of self.old))))) }
     {
-        if from + new.len() + (self.used - to) > self.rows.len() {
+        if from + new.len() + (self.used - to) > self.memory.places.len() {
             return Err(StoreRefusal::Full);
         }
         self.replace(from, to, new);

@@ -9,5 +9,5 @@ mod rows_store;
 mod search;
 mod table;
 
-pub use row::{CheckedRows, RefusedRows, Row};
+pub use row::Row;
 pub use rows_store::RowStore;

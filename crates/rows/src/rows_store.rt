@@ -8,9 +8,9 @@ ghost use Rattle.std.proofs.Common.{rules};
 ghost use Rattle.rows.specs.Meanings.{all_fit};
 
 use crate::labels::Labels;
-use crate::row::{CheckedRows, Row};
+use crate::row::Row;
 use crate::table::Table;
-use store::{Range, RangeStore, SetName, StoreRefusal};
+use store::{InMemory, Memory, Range, RangeStore, SetName, StoreRefusal};
 
 /// A store in rows that the caller hands over. It never allocates; one row in use holds one maximal range.
 #[derive(Drop)]
@@ -19,28 +19,28 @@ pub struct RowStore {
     labels: Labels,
 }
 
-impl RowStore {
-    /// A store in these rows with every set empty, whatever they hold. Its limit is their number.
-    pub fn new(checked: CheckedRows) -> RowStore
+impl InMemory for RowStore {
+    type Place = Row;
+
+    fn new(memory: Memory<Row>) -> RowStore
         ensures empty { meaning result ≡ nothing }
-        ensures limit { limit_of result ≡ vec_len checked.rows }
-        ensures rows { result.table.rows ≡ checked.rows }
+        ensures limit { limit_of result ≡ vec_len memory.places }
+        ensures rows { result.table.memory ≡ memory }
     {
-        let CheckedRows { rows } = checked;
         RowStore {
-            table: Table { rows, used: 0 },
+            table: Table { memory, used: 0 },
             labels: Labels::new(),
         }
     }
 
-    /// The rows back, as the store leaves them.
-    pub fn into_rows(self) -> Vec<Row>
-        ensures rows { result ≡ self.table.rows }
+    fn into_places(self) -> Vec<Row>
+        ensures rows { result ≡ self.table.memory.places }
         ensures number { vec_len result ≡ limit_of self }
     {
         let RowStore { table, labels: _ } = self;
-        let Table { rows, used: _ } = table;
-        rows
+        let Table { memory, used: _ } = table;
+        let Memory { places } = memory;
+        places
     }
 }
 
@@ -64,7 +64,7 @@ impl RangeStore for RowStore {
     }
 
     fn move_set(&mut self, from: SetName, to: SetName) {
-        if from.number() != to.number() {
+        if from != to {
             self.table.clear(self.labels.of(to));
             self.labels.swap(from, to);
         }
@@ -72,10 +72,6 @@ impl RangeStore for RowStore {
 
     fn clear(&mut self, set: SetName) {
         self.table.clear(self.labels.of(set));
-    }
-
-    fn holds(&self, set: SetName, id: u64) -> bool {
-        self.table.holds(self.labels.of(set), id)
     }
 
     fn next(&self, set: SetName, n: u64) -> Option<(u64, u64)> {
@@ -87,6 +83,6 @@ impl RangeStore for RowStore {
     }
 
     fn limit(&self) -> usize {
-        self.table.rows.len()
+        self.table.memory.places.len()
     }
 }

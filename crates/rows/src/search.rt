@@ -1,7 +1,7 @@
 // Where rows stand: binary search on the line of all labels and IDs.
 ghost use Rattle.std.specs.Prelude.{◌≡◌, ◌<◌, ◌≤◌, length, take, drop};
 ghost use Rattle.std.specs.List.{AllByRecursion};
-ghost use Rattle.store.specs.Ranges.{has, next_range};
+ghost use Rattle.store.specs.Ranges.{next_range};
 ghost use Rattle.rows.specs.Rows.{spot, begins_at, ends_at, ranges};
 ghost use Rattle.rows.specs.Tables.{rows_of};
 
@@ -44,7 +44,7 @@ impl Table {
         let mut high = self.used;
         while low < high {
             let middle = low + (high - low) / 2;
-            let row = self.rows[middle];
+            let row = self.memory.places[middle];
             if row.ends_at() < at {
                 low = middle + 1;
             } else {
@@ -62,7 +62,7 @@ impl Table {
     {
         let ended = self.ending_before(at);
         if ended < self.used {
-            let row = self.rows[ended];
+            let row = self.memory.places[ended];
             if row.begins_at() < at {
                 return ended + 1;
             }
@@ -76,21 +76,11 @@ impl Table {
     {
         let found = self.ending_before(spot(label.value, n));
         if found < self.used {
-            let row = self.rows[found];
+            let row = self.memory.places[found];
             if row.label == label.value {
                 return Some((row.low, row.high));
             }
         }
         None
-    }
-
-    /// Whether the ID is in a range under the label.
-    pub(crate) fn holds(&self, label: Label, id: u64) -> bool
-        ensures { result ≡ has (ranges label.value (rows_of self.now)) id }
-    {
-        match self.next(label, id) {
-            Some((low, _)) => low <= id,
-            None => false,
-        }
     }
 }

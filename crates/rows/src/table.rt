@@ -3,16 +3,15 @@ ghost use Rattle.std.specs.Prelude.{◌≡◌, ◌<◌, ◌≤◌, true, take, v
 ghost use Rattle.rows.specs.Rows.{rising};
 
 use crate::row::Row;
+use store::Memory;
 
 /// The first `used` rows each hold a maximal range under a label; they are in order of label and range.
 #[derive(Drop)]
 pub struct Table {
-    pub(crate) rows: Vec<Row>,
+    pub(crate) memory: Memory<Row>,
     pub(crate) used: usize,
-    ghost least: { 64 ≤ vec_len rows },
-    ghost most: { vec_len rows ≤ 65535 },
-    ghost fits: { used ≤ vec_len rows },
-    ghost rises: { rising 0 (take used rows.items) ≡ true },
+    ghost fits: { used ≤ vec_len memory.places },
+    ghost rises: { rising 0 (take used memory.places.items) ≡ true },
 }
 
 /// One of the eleven labels.

@@ -5,9 +5,10 @@ use Rattle.rows.specs.Orders.{rising_test}
 use Rattle.rows.proofs.table.Table.replace.Goals as goal
 
 pub invariant_of-self : goal.invariant_of-self
-invariant_of-self c = record {
-  least = omega arith;
-  most = omega arith;
+invariant_of-self c = (omega arith, tt)
+
+pub invariant_of-self-2 : goal.invariant_of-self-2
+invariant_of-self-2 c = record {
   fits = omega arith;
   rises = rising_test 0 _ (subst (Rising 0) (sym c.splice.ensures.items) c.requires.rising);
 }
