@@ -1,16 +1,19 @@
 -- What a script has made, and what each of its calls makes of that and answers.
-use Rattle.std.specs.Prelude.{◌≡◌, ℕ, ◌⊎◌, Some, None, Option}
+use Rattle.std.specs.Prelude.{◌≡◌, ℕ, ◌⊎◌, Some, None, Ok, Err, Option, Result}
 use Rattle.std.specs.Option.{option_map}
 use Rattle.store.specs.Limits.{MayBeLimit}
-use Rattle.store.specs.Refusals.{wrong_row_count}
 use Rattle.store.specs.Sets.{Model, nothing}
+use Rattle.store.specs.declared.refusal.StoreRefusal.TheVariants.{RowCount}
 use Rattle.rows.specs.Meaning.{meaning, limit_of}
 use Rattle.mailcopy.specs.declared.answer.Answer.{Answer}
-use Rattle.mailcopy.specs.declared.answer.Answer.TheVariants.{Done, Refused, NoCopy}
+use Rattle.mailcopy.specs.declared.answer.Answer.TheVariants.{Done}
+use Rattle.mailcopy.specs.declared.answer.Complaint.{Complaint}
+use Rattle.mailcopy.specs.declared.answer.Complaint.TheVariants.{Refused, NoCopy}
 use Rattle.mailcopy.specs.declared.call.Call.{Call}
 use Rattle.mailcopy.specs.declared.call.Call.TheVariants.{MakeRows, Store}
+use Rattle.mailcopy.specs.declared.call.StoreCall.{StoreCall}
 use Rattle.mailcopy.specs.declared.session.Session.{Session}
-use Rattle.mailcopy.specs.Performs.{Performs}
+use Rattle.mailcopy.specs.Performs.{Performed, Performs}
 
 -- the limit and the sets of the store that is in use, if one has been made
 abbrev pub Made : Type 0
@@ -19,15 +22,28 @@ Made = Option (ℕ × Model)
 abbrev pub made_so_far : Session → Made
 made_so_far session = option_map (λ store. (limit_of store, meaning store)) session.store
 
--- a store of n rows is wanted: it takes the place of what was there, and else refusal 1 leaves that
-pub record Makes (n : ℕ) (before after : Made) (answer : Answer) : Type 0 where
-  pub made : MayBeLimit n → (after ≡ Some (n, nothing)) × (answer ≡ Done)
-  pub refused : (MayBeLimit n → ⊥) → (after ≡ before) × (answer ≡ Refused wrong_row_count)
+-- the answer to a call, or the complaint in place of one
+abbrev pub Outcome : Type 0
+Outcome = Result Answer Complaint
 
-abbrev pub Steps : Made → Call → Made → Answer → Type 0
-Steps before (MakeRows n) after answer = Makes n before after answer
-Steps None (Store call) after answer = (after ≡ None) × (answer ≡ NoCopy)
-Steps (Some store) (Store call) after answer = (sets : Model) × (after ≡ Some (store.0, sets)) × Performs store.0 store.1 call sets answer
+-- what comes of a call on a store, where a refusal of the store becomes a complaint
+abbrev pub told : Performed → Outcome
+told (Ok answer) = Ok answer
+told (Err refusal) = Err (Refused refusal)
+
+-- a store of n rows is wanted: it takes the place of what was there, and else refusal 1 leaves that
+pub record Makes (n : ℕ) (before after : Made) (outcome : Outcome) : Type 0 where
+  pub made : MayBeLimit n → (after ≡ Some (n, nothing)) × (outcome ≡ Ok Done)
+  pub refused : (MayBeLimit n → ⊥) → (after ≡ before) × (outcome ≡ Err (Refused RowCount))
+
+-- a call on the store in use, if there is one
+abbrev pub Asks : Made → StoreCall → Made → Outcome → Type 0
+Asks None call after outcome = (after ≡ None) × (outcome ≡ Err NoCopy)
+Asks (Some store) call after outcome = (sets : Model) × (done : Performed) × (after ≡ Some (store.0, sets)) × Performs store.0 store.1 call sets done × (outcome ≡ told done)
+
+abbrev pub Steps : Made → Call → Made → Outcome → Type 0
+Steps before (MakeRows n) after outcome = Makes n before after outcome
+Steps before (Store call) after outcome = Asks before call after outcome
 
 -- memory was wanting: only for the rows of a store that may be, and then all is as it was
 abbrev pub Wanting : Made → Call → Made → Type 0
@@ -36,4 +52,4 @@ Wanting before (Store call) after = ⊥
 
 -- a line makes one step by a call, or none
 abbrev pub Line : Made → Made → Type 0
-Line before after = (after ≡ before) ⊎ ((call : Call) × (answer : Answer) × Steps before call after answer)
+Line before after = (after ≡ before) ⊎ ((call : Call) × (outcome : Outcome) × Steps before call after outcome)

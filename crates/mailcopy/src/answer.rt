@@ -1,59 +1,59 @@
-// The answers to the calls of a script, and how they are printed.
-use std::alloc::AllocError;
-use store::{Layer, Refusal};
-use text::write_decimal;
+// The answers to the calls of a script, the complaints in place of one, and how they are printed.
+ghost use Rattle.std.specs.Prelude.{◌≡◌};
+ghost use Rattle.mailcopy.specs.declared.answer.Complaint.TheVariants.{Refused};
+
+use std::error::Error;
+use std::fmt;
+use store::{Refusal, StoreRefusal};
 
 /// The answer to a call.
-#[derive(Clone, Copy)]
+#[derive(Clone, Copy, Debug, PartialEq, Eq)]
 pub enum Answer {
     Done,
     Test(bool),
-    Bounds(u64, u64),
-    NoRange,
+    Next(Option<(u64, u64)>),
     Count(u64),
-    Refused(Refusal),
+}
+
+impl fmt::Display for Answer {
+    fn fmt<W: fmt::Write>(&self, f: &mut fmt::Formatter<W>) -> fmt::Result {
+        match self {
+            Answer::Done => write!(f, "ok"),
+            Answer::Test(truth) => write!(f, "ok {truth}"),
+            Answer::Next(Some((low, high))) => write!(f, "ok {low} {high}"),
+            Answer::Next(None) => write!(f, "ok none"),
+            Answer::Count(n) => write!(f, "ok {n}"),
+        }
+    }
+}
+
+/// Why a line of a script has no answer.
+#[derive(Clone, Copy, Debug, PartialEq, Eq)]
+pub enum Complaint {
+    /// The store layer refuses the call.
+    Refused(StoreRefusal),
+    /// The line is no call, or names a set or a range that cannot exist.
     BadCall,
+    /// No store has been made yet.
     NoCopy,
 }
 
-fn layer_name(layer: Layer) -> &'static [u8] {
-    match layer {
-        Layer::Store => b"store",
-        Layer::Set => b"set",
-        Layer::Element => b"element",
-        Layer::Record => b"record",
-        Layer::Copy => b"copy",
+impl From<StoreRefusal> for Complaint {
+    ghost from_gives = { λ e c. c ≡ Refused e };
+
+    fn from(refusal: StoreRefusal) -> Complaint {
+        Complaint::Refused(refusal)
     }
 }
 
-fn write_refusal(refusal: Refusal, out: &mut Vec<u8>) -> Result<(), AllocError> {
-    out.extend_from_slice(b"refused ")?;
-    write_decimal(u64::from(refusal.number), out)?;
-    out.extend_from_slice(b" ")?;
-    out.extend_from_slice(layer_name(refusal.layer))
-}
-
-fn write_bounds(low: u64, high: u64, out: &mut Vec<u8>) -> Result<(), AllocError> {
-    out.extend_from_slice(b"ok ")?;
-    write_decimal(low, out)?;
-    out.extend_from_slice(b" ")?;
-    write_decimal(high, out)
-}
-
-/// Writes an answer.
-pub fn write_answer(answer: Answer, out: &mut Vec<u8>) -> Result<(), AllocError> {
-    match answer {
-        Answer::Done => out.extend_from_slice(b"ok"),
-        Answer::Test(true) => out.extend_from_slice(b"ok true"),
-        Answer::Test(false) => out.extend_from_slice(b"ok false"),
-        Answer::Bounds(low, high) => write_bounds(low, high, out),
-        Answer::NoRange => out.extend_from_slice(b"ok none"),
-        Answer::Count(n) => {
-            out.extend_from_slice(b"ok ")?;
-            write_decimal(n, out)
+impl fmt::Display for Complaint {
+    fn fmt<W: fmt::Write>(&self, f: &mut fmt::Formatter<W>) -> fmt::Result {
+        match self {
+            Complaint::Refused(refusal) => write!(f, "refused {}", Refusal::from(*refusal)),
+            Complaint::BadCall => write!(f, "bad call"),
+            Complaint::NoCopy => write!(f, "no copy"),
         }
-        Answer::Refused(refusal) => write_refusal(refusal, out),
-        Answer::BadCall => out.extend_from_slice(b"bad call"),
-        Answer::NoCopy => out.extend_from_slice(b"no copy"),
     }
 }
+
+impl Error for Complaint {}

@@ -1,11 +1,12 @@
 // The calls of a script: reading them from a line, and printing them in normal form.
+use crate::answer::Complaint;
 use crate::words::Words;
-use std::alloc::AllocError;
+use std::fmt;
 use store::{Range, SetName};
-use text::{read_decimal, write_decimal};
+use text::read_decimal;
 
 /// A call on a store.
-#[derive(Clone, Copy)]
+#[derive(Clone, Copy, Debug, PartialEq, Eq)]
 pub enum StoreCall {
     Put(SetName, Range),
     Take(SetName, Range),
@@ -18,7 +19,7 @@ pub enum StoreCall {
 }
 
 /// A call of a script.
-#[derive(Clone, Copy)]
+#[derive(Clone, Copy, Debug, PartialEq, Eq)]
 pub enum Call {
     MakeRows(u64),
     Store(StoreCall),
@@ -29,13 +30,11 @@ fn number(words: &mut Words) -> Option<u64> {
 }
 
 fn set(words: &mut Words) -> Option<SetName> {
-    SetName::from_number(number(words)?)
+    SetName::try_from(number(words)?).ok()
 }
 
 fn range(words: &mut Words) -> Option<Range> {
-    let low = number(words)?;
-    let high = number(words)?;
-    Range::new(low, high)
+    Range::new(number(words)?, number(words)?)
 }
 
 fn rows(words: &mut Words) -> Option<u64> {
@@ -60,57 +59,56 @@ fn store_call(name: &[u8], words: &mut Words) -> Option<StoreCall> {
     Some(call)
 }
 
-/// The call that a line is; none if it is no call, or names a set or a range that cannot exist.
-pub fn read_call(line: &[u8]) -> Option<Call> {
-    let mut words = Words::of(line);
+fn whole_call(words: &mut Words) -> Option<Call> {
     let call = match words.next()? {
-        b"make" => Call::MakeRows(rows(&mut words)?),
-        name => Call::Store(store_call(name, &mut words)?),
+        b"make" => Call::MakeRows(rows(words)?),
+        name => Call::Store(store_call(name, words)?),
     };
-    match words.next() {
-        None => Some(call),
-        Some(_) => None,
+    words.next().is_none().then_some(call)
+}
+
+/// The call that a line is; a bad call if it is none, or names a set or a range that cannot exist.
+impl TryFrom<&[u8]> for Call {
+    type Error = Complaint;
+
+    fn try_from(line: &[u8]) -> Result<Call, Complaint> {
+        whole_call(&mut Words::of(line)).ok_or(Complaint::BadCall)
     }
 }
 
-fn write_numbers(name: &[u8], numbers: &[u64], out: &mut Vec<u8>) -> Result<(), AllocError> {
-    out.extend_from_slice(name)?;
-    for n in numbers {
-        out.extend_from_slice(b" ")?;
-        write_decimal(*n, out)?;
-    }
-    Ok(())
-}
-
-fn of(set: SetName) -> u64 {
-    u64::from(set.number())
-}
-
-fn write_store_call(call: StoreCall, out: &mut Vec<u8>) -> Result<(), AllocError> {
-    match call {
-        StoreCall::Put(set, range) => write_numbers(
-            b"put",
-            &[of(set), range.low(), range.high()],
-            out,
-        ),
-        StoreCall::Take(set, range) => write_numbers(
-            b"take",
-            &[of(set), range.low(), range.high()],
-            out,
-        ),
-        StoreCall::Move(from, to) => write_numbers(b"move", &[of(from), of(to)], out),
-        StoreCall::Clear(set) => write_numbers(b"clear", &[of(set)], out),
-        StoreCall::Query(set, id) => write_numbers(b"query", &[of(set), id], out),
-        StoreCall::Next(set, n) => write_numbers(b"next", &[of(set), n], out),
-        StoreCall::Total => write_numbers(b"total", &[], out),
-        StoreCall::Limit => write_numbers(b"limit", &[], out),
+impl fmt::Display for StoreCall {
+    fn fmt<W: fmt::Write>(&self, f: &mut fmt::Formatter<W>) -> fmt::Result {
+        match self {
+            StoreCall::Put(set, range) => write!(
+                f,
+                "put {} {} {}",
+                set.number(),
+                range.low(),
+                range.high()
+            ),
+            StoreCall::Take(set, range) => write!(
+                f,
+                "take {} {} {}",
+                set.number(),
+                range.low(),
+                range.high()
+            ),
+            StoreCall::Move(from, to) => write!(f, "move {} {}", from.number(), to.number()),
+            StoreCall::Clear(set) => write!(f, "clear {}", set.number()),
+            StoreCall::Query(set, id) => write!(f, "query {} {id}", set.number()),
+            StoreCall::Next(set, n) => write!(f, "next {} {n}", set.number()),
+            StoreCall::Total => write!(f, "total"),
+            StoreCall::Limit => write!(f, "limit"),
+        }
     }
 }
 
-/// Writes a call in normal form: one space between words, numbers in decimal without leading zeros.
-pub fn write_call(call: Call, out: &mut Vec<u8>) -> Result<(), AllocError> {
-    match call {
-        Call::MakeRows(n) => write_numbers(b"make rows", &[n], out),
-        Call::Store(call) => write_store_call(call, out),
+/// A call in normal form: one space between words, numbers in decimal without leading zeros.
+impl fmt::Display for Call {
+    fn fmt<W: fmt::Write>(&self, f: &mut fmt::Formatter<W>) -> fmt::Result {
+        match self {
+            Call::MakeRows(n) => write!(f, "make rows {n}"),
+            Call::Store(call) => write!(f, "{call}"),
+        }
     }
 }

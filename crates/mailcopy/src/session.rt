@@ -1,15 +1,17 @@
 // The store that a script works on, and its lines one by one.
 ghost use Rattle.std.specs.Prelude.{◌≡◌, None, MatchResult};
-ghost use Rattle.mailcopy.specs.Sessions.{made_so_far, Makes, Steps, Wanting, Line};
+ghost use Rattle.mailcopy.specs.Sessions.{made_so_far, Makes, Asks, Steps, Wanting, Line};
 ghost use Rattle.store.specs.Limits.{MayBeLimit};
 
-use crate::answer::{Answer, write_answer};
-use crate::call::{Call, read_call, write_call};
+use crate::answer::{Answer, Complaint};
+use crate::call::{Call, StoreCall};
 use crate::perform::perform;
 use crate::words::{Words, write_words};
-use rows::{CheckedRows, Row, RowStore};
+use rows::{Row, RowStore};
 use std::alloc::{AllocError, Global};
-use store::{Limit, RangeStore};
+use std::io;
+use std::io::Write;
+use store::{InMemory, Limit, Memory};
 
 /// What a script has made so far.
 #[derive(Drop)]
@@ -19,11 +21,7 @@ pub struct Session {
 
 // A line without a word, or whose first word begins with '#'.
 fn is_skipped(line: &[u8]) -> bool {
-    match Words::of(line).next() {
-        None => true,
-        Some([b'#', ..]) => true,
-        Some(_) => false,
-    }
+    matches!(Words::of(line).next(), None | Some([b'#', ..]))
 }
 
 impl Session {
@@ -35,63 +33,56 @@ impl Session {
     }
 
     // A store of so many rows in place of what was there, which a refusal leaves. No rows are asked for that no store can have.
-    fn make_rows(&mut self, heap: Global, n: u64) -> Result<Answer, AllocError>
+    fn make_rows(&mut self, heap: Global, n: u64) -> Result<Result<Answer, Complaint>, AllocError>
         ensures { MatchResult result (Makes n (made_so_far self.old) (made_so_far self.new)) (λ _. MayBeLimit n × (made_so_far self.new ≡ made_so_far self.old)) }
     {
-        let limit = match Limit::new(n) {
+        let limit = match Limit::try_from(n) {
             Ok(limit) => limit,
-            Err(refusal) => return Ok(Answer::Refused(refusal.listed())),
+            Err(refusal) => return Ok(Err(refusal.into())),
         };
-        let blank = Row {
-            label: 0,
-            low: 0,
-            high: 0,
-        };
-        match CheckedRows::new(vec![in heap; blank; limit.ranges()]?) {
-            Ok(checked) => {
-                self.store = Some(RowStore::new(checked));
-                Ok(Answer::Done)
-            }
-            Err(refused) => Ok(Answer::Refused(refused.refusal.listed())),
-        }
+        let rows = vec![in heap; Row::default(); limit.ranges()]?;
+        let memory = Memory::new(rows).unwrap();
+        self.store = Some(RowStore::new(memory));
+        Ok(Ok(Answer::Done))
     }
 
-    fn answer(&mut self, heap: Global, call: Call) -> Result<Answer, AllocError>
+    // A call on the store that is in use.
+    fn ask(&mut self, call: StoreCall) -> Result<Answer, Complaint>
+        ensures { Asks (made_so_far self.old) call (made_so_far self.new) result }
+    {
+        let store = self.store.as_mut().ok_or(Complaint::NoCopy)?;
+        Ok(perform(store, call)?)
+    }
+
+    fn answer(&mut self, heap: Global, call: Call) -> Result<Result<Answer, Complaint>, AllocError>
         ensures { MatchResult result (Steps (made_so_far self.old) call (made_so_far self.new)) (λ _. Wanting (made_so_far self.old) call (made_so_far self.new)) }
     {
         match call {
             Call::MakeRows(n) => self.make_rows(heap, n),
-            Call::Store(call) => match &mut self.store {
-                Some(store) => Ok(perform(store, call)),
-                None => Ok(Answer::NoCopy),
-            },
+            Call::Store(call) => Ok(self.ask(call)),
         }
     }
 
-    /// Adds to `out` what a line of a script prints: its call, the answer, and a line's end; nothing for a blank line or a comment.
-    pub fn answer_line(
-        &mut self,
-        heap: Global,
-        line: &[u8],
-        out: &mut Vec<u8>,
-    ) -> Result<(), AllocError>
+    /// Adds to `out` what a line of a script prints: its call, the answer or the complaint, and a line's end; nothing for a blank line or a comment.
+    pub fn answer_line(&mut self, heap: Global, line: &[u8], out: &mut Vec<u8>) -> io::Result<()>
         ensures { Line (made_so_far self.old) (made_so_far self.new) }
     {
         if is_skipped(line) {
             return Ok(());
         }
-        let answer = match read_call(line) {
-            Some(call) => {
-                write_call(call, out)?;
+        let outcome = match Call::try_from(line) {
+            Ok(call) => {
+                write!(out, "{call}")?;
                 self.answer(heap, call)?
             }
-            None => {
+            Err(complaint) => {
                 write_words(line, out)?;
-                Answer::BadCall
+                Err(complaint)
             }
         };
-        out.extend_from_slice(b" => ")?;
-        write_answer(answer, out)?;
-        out.extend_from_slice(b"\n")
+        match outcome {
+            Ok(answer) => writeln!(out, " => {answer}"),
+            Err(complaint) => writeln!(out, " => {complaint}"),
+        }
     }
 }

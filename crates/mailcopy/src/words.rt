@@ -1,57 +1,55 @@
 // The words of a line.
-ghost use Rattle.std.specs.Prelude.{◌≤◌, length};
+ghost use Rattle.std.specs.Prelude.{length};
+ghost use Rattle.std.specs.Iterator.{at_most};
 
 use std::alloc::AllocError;
 
-/// What is left of a line, word by word.
-#[derive(Clone, Copy)]
+/// The words of a line that are still to come.
+#[derive(Clone, Debug, Drop)]
 pub struct Words<'a> {
     rest: &'a [u8],
 }
 
 fn is_blank(byte: u8) -> bool {
-    byte == b' ' || byte == b'\t' || byte == b'\r'
-}
-
-// How many bytes at the front are blank, or are not.
-fn run_of(bytes: &[u8], blank: bool) -> usize
-    ensures { result ≤ length bytes.now }
-{
-    for (i, byte) in bytes.iter().enumerate() {
-        if is_blank(*byte) != blank {
-            return i;
-        }
-    }
-    bytes.len()
+    matches!(byte, b' ' | b'\t' | b'\r')
 }
 
 impl<'a> Words<'a> {
     pub fn of(line: &'a [u8]) -> Self {
         Words { rest: line }
     }
+}
 
-    /// The next word; none at the end of the line.
-    pub fn next(&mut self) -> Option<&'a [u8]> {
+impl<'a> Iterator for Words<'a> {
+    type Item = &'a [u8];
+
+    ghost remaining = { λ words. at_most (length words.rest.now) };
+
+    fn next(&mut self) -> Option<&'a [u8]> {
         let rest = self.rest;
-        let rest = &rest[run_of(rest, true)..];
-        let (word, rest) = rest.split_at(run_of(rest, false));
+        let start = rest
+            .iter()
+            .position(|byte| !is_blank(*byte))
+            .unwrap_or(rest.len());
+        let rest = &rest[start..];
+        let end = rest
+            .iter()
+            .position(|byte| is_blank(*byte))
+            .unwrap_or(rest.len());
+        let (word, rest) = rest.split_at(end);
         self.rest = rest;
-        if word.is_empty() { None } else { Some(word) }
+        (!word.is_empty()).then_some(word)
     }
 }
 
 /// Writes the words of a line as they stand, with one space between two.
 pub fn write_words(line: &[u8], out: &mut Vec<u8>) -> Result<(), AllocError> {
     let mut words = Words::of(line);
-    let mut first = true;
-    for _ in 0..line.len() {
-        let Some(word) = words.next() else {
-            break;
-        };
-        if !first {
-            out.extend_from_slice(b" ")?;
-        }
-        first = false;
+    if let Some(first) = words.next() {
+        out.extend_from_slice(first)?;
+    }
+    for word in words {
+        out.push(b' ')?;
         out.extend_from_slice(word)?;
     }
     Ok(())
