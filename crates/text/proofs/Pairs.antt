@@ -1,9 +1,11 @@
 -- Pairs of hex digits: read one after another they give what the whole word reads as, and written ones read back.
-use Rattle.std.proofs.Common.{◌≡◌, ℕ, ◌+◌, ◌-◌, ◌/◌, ◌%◌, ◌<◌, ◌≤◌, List, [], ◌∷◌, ◌++◌, length, get_or, take, drop, Some, None, Option, sym, refl, ap, ◌∙◌, arith}
+use Rattle.std.proofs.Common.{◌≡◌, ℕ, ◌+◌, ◌-◌, ◌/◌, ◌%◌, ◌^◌, false, ◌<◌, ◌≤◌, List, [], ◌∷◌, ◌++◌, length, get_or, take, drop, Some, None, Option, sym, refl, ap, ◌∙◌, arith}
 use Rattle.std.specs.List.{flat_map, AllByRecursion}
-use Rattle.std.proofs.lemmas.List.{append_assoc, append-nil, take_more, take_all, take_rest, flat_map_more}
+use Rattle.std.proofs.lemmas.List.{append_assoc, append-nil, take_more, take_rest, flat_map_more}
 use Rattle.std.proofs.lemmas.Bool.Decides.{nat_tests}
-use Rattle.text.specs.Hex.{hex_digit, byte_of, in_front, pairs, hex_bytes, hex_character, two_digits, hex_text, PrintedBytesReadBack}
+use Rattle.std.proofs.lemmas.Fmt.{hex_byte}
+use Rattle.std.specs.Fmt.{digits, digit_glyph, format_spec, padded_integral}
+use Rattle.text.specs.Hex.{hex_digit, byte_of, in_front, pairs, hex_bytes, hex_character, two_digits, PrintedBytesReadBack}
 
 -- bytes that are read already, in front of those that are still to come
 abbrev pub read_then : List ℕ → Option (List ℕ) → Option (List ℕ)
@@ -68,16 +70,19 @@ long_word [] two = absurd (omega arith)
 long_word (c ∷ []) two = absurd (omega arith)
 long_word (c ∷ (d ∷ cs)) two = refl
 
+glyph_is_character : (d : ℕ) → digit_glyph false d ≡ hex_character d
+glyph_is_character d = grind (arith, nat_tests)
+
+-- `{:02x}` writes the two digits of a byte
+two_digits_written : (b : ℕ) → b < 256 → padded_integral (format_spec 32 0 4 2 (2 ^ 64 - 1)) false [] (digits 16 false b) ≡ two_digits b
+two_digits_written b h = hex_byte false b h ∙ rw (glyph_is_character (b / 16), glyph_is_character (b % 16)) refl
+
 -- the digits of one more byte are written
-pub one_more_written : (bs text new : List ℕ) (i high low : ℕ) → i < length bs → text ≡ flat_map two_digits (take i bs)
-    → high ≡ hex_character (get_or bs i 0 / 16) → low ≡ hex_character (get_or bs i 0 % 16) → new ≡ text ++ (high ∷ (low ∷ []))
+pub one_more_written : (bs text new : List ℕ) (i : ℕ) → i < length bs → get_or bs i 0 < 256 → text ≡ flat_map two_digits (take i bs)
+    → new ≡ text ++ padded_integral (format_spec 32 0 4 2 (2 ^ 64 - 1)) false [] (digits 16 false (get_or bs i 0))
     → new ≡ flat_map two_digits (take (i + 1) bs)
-one_more_written bs text new i high low within so_far h l grown =
+one_more_written bs text new i within byte so_far grown =
+    let written = two_digits_written (get_or bs i 0) byte in
     let more = flat_map_more two_digits [] (take i bs) (get_or bs i 0) in
     let step = take_more bs i 0 within in
     cc
-
--- all bytes are written
-pub all_written : (bs text : List ℕ) (i : ℕ) → (length bs ≡ 0 → ⊥) → length bs ≤ i → text ≡ flat_map two_digits (take i bs) → text ≡ hex_text bs
-all_written [] text i some done e = absurd (some refl)
-all_written (b ∷ bs) text i some done e = e ∙ ap (flat_map two_digits) (take_all i (b ∷ bs) done)

@@ -28,10 +28,8 @@ pub fn read_decimal(word: &[u8]) -> Option<u64>
 fn with_digit(number: u64, byte: u8) -> Option<u64>
     ensures { result ≡ extended number byte }
 {
-    match byte {
-        b'0'..=b'9' => number.checked_mul(10)?.checked_add(u64::from(byte - b'0')),
-        _ => None,
-    }
+    let digit = char::from(byte).to_digit(10)?;
+    number.checked_mul(10)?.checked_add(u64::from(digit))
 }
 
 /// Writes a number at the end of `out`, without leading zeros; zero is `0`.

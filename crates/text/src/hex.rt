@@ -1,8 +1,8 @@
 //! Bytes in hex: reading them from a word, and writing them at the end of a text.
 
-ghost use Rattle.std.specs.Prelude.{◌≡◌, ◌<◌, ◌++◌, is_ok, IfOk, if◌then◌else◌, vec_items};
+ghost use Rattle.std.specs.Prelude.{◌≡◌, ◌++◌, is_ok, IfOk, if◌then◌else◌, string_bytes, vec_items};
 ghost use Rattle.std.specs.Option.{option_map};
-ghost use Rattle.text.specs.Hex.{hex_digit, byte_of, pairs, hex_bytes, hex_character, hex_text, PrintedBytesReadBack};
+ghost use Rattle.text.specs.Hex.{hex_digit, byte_of, pairs, hex_bytes, hex_text, PrintedBytesReadBack};
 
 use std::alloc::{AllocError, Global};
 
@@ -45,19 +45,9 @@ fn read_pairs(heap: Global, word: &[u8]) -> Result<Option<Vec<u8>>, AllocError>
 fn read_byte(high: u8, low: u8) -> Option<u8>
     ensures { result ≡ byte_of (hex_digit high) (hex_digit low) }
 {
-    Some(digit_value(high)? * 16 + digit_value(low)?)
-}
-
-/// What a hex digit counts, or `None` for a byte that is no hex digit.
-fn digit_value(digit: u8) -> Option<u8>
-    ensures { result ≡ hex_digit digit }
-{
-    match digit {
-        b'0'..=b'9' => Some(digit - b'0'),
-        b'a'..=b'f' => Some(digit - b'a' + 10),
-        b'A'..=b'F' => Some(digit - b'A' + 10),
-        _ => None,
-    }
+    let high = char::from(high).to_digit(16)?;
+    let low = char::from(low).to_digit(16)?;
+    Some((high * 16 + low) as u8)
 }
 
 /// Writes bytes at the end of `out` in hex, two digits for each byte with small letters; no bytes are `-`.
@@ -67,34 +57,21 @@ pub fn write_hex(bytes: &[u8], out: &mut Vec<u8>) -> Result<(), AllocError>
     ensures { out.new.items ≡ (if is_ok result then out.old.items ++ hex_text bytes.now else out.old.items) }
 {
     let text = hex_of(*out.allocator(), bytes)?;
-    out.extend_from_slice(text.as_slice())
+    out.extend_from_slice(text.as_bytes())
 }
 
 /// The text that `write_hex` writes of bytes; fails for want of memory.
-fn hex_of(heap: Global, bytes: &[u8]) -> Result<Vec<u8>, AllocError>
-    ensures { IfOk result (λ text. text.items ≡ hex_text bytes.now) }
+fn hex_of(heap: Global, bytes: &[u8]) -> Result<String, AllocError>
+    ensures { IfOk result (λ text. string_bytes text ≡ hex_text bytes.now) }
 {
     if bytes.is_empty() {
-        return Vec::from_slice(heap, b"-");
+        return String::from_str(heap, "-");
     }
-    let mut text = Vec::new(heap);
+    let mut text = String::new(heap);
     for byte in bytes {
-        let pair = [character(*byte / 16), character(*byte % 16)];
-        text.extend_from_slice(&pair)?;
+        write!(text, "{byte:02x}")?;
     }
     Ok(text)
-}
-
-/// The hex digit that counts `half`, a number below 16.
-fn character(half: u8) -> u8
-    requires { half < 16 }
-    ensures { result ≡ hex_character half }
-{
-    if half < 10 {
-        b'0' + half
-    } else {
-        b'a' + (half - 10)
-    }
 }
 
 /// States that printed bytes read back as themselves. It does nothing.
