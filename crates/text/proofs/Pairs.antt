@@ -1,7 +1,7 @@
 -- Pairs of hex digits: read one after another they give what the whole word reads as, and written ones read back.
-use Rattle.std.proofs.Common.{◌≡◌, ℕ, ◌+◌, ◌-◌, ◌/◌, ◌%◌, ◌^◌, false, ◌<◌, ◌≤◌, List, [], ◌∷◌, ◌++◌, length, get_or, take, drop, Some, None, Option, sym, refl, ap, ◌∙◌, arith}
+use Rattle.std.proofs.Common.{◌≡◌, ℕ, ◌+◌, ◌-◌, ◌/◌, ◌%◌, ◌^◌, false, ◌<◌, ◌≤◌, List, [], ◌∷◌, ◌++◌, length, get_or, take, Some, None, Option, sym, refl, ap, ◌∙◌, arith}
 use Rattle.std.specs.List.{flat_map, AllByRecursion}
-use Rattle.std.proofs.lemmas.List.{append_assoc, append-nil, take_more, take_rest, flat_map_more}
+use Rattle.std.proofs.lemmas.List.{append_assoc, take_more, flat_map_more}
 use Rattle.std.proofs.lemmas.Bool.Decides.{nat_tests}
 use Rattle.std.proofs.lemmas.Fmt.{hex_byte}
 use Rattle.std.specs.Fmt.{digits, digit_glyph, format_spec, padded_integral}
@@ -31,38 +31,15 @@ pub reads_back : PrintedBytesReadBack
 reads_back [] h = refl
 reads_back (b ∷ bs) h = pairs_read_back (b ∷ bs) h
 
--- the first two digits of a word give its first byte
-pairs_of_front : (word : List ℕ) → 2 ≤ length word
-    → pairs word ≡ in_front (byte_of (hex_digit (get_or word 0 0)) (hex_digit (get_or word 1 0))) (pairs (take (length word - 2) (drop 2 word)))
-pairs_of_front [] h = absurd (omega arith)
-pairs_of_front (high ∷ []) h = absurd (omega arith)
-pairs_of_front (high ∷ (low ∷ rest)) h = rw (take_rest (high ∷ (low ∷ rest)) 2)
-
 -- one more byte is read from the rest
-pub one_more_pair : (rest bs new : List ℕ) (b : ℕ) (r : Option (List ℕ)) → 2 ≤ length rest
-    → Some b ≡ byte_of (hex_digit (get_or rest 0 0)) (hex_digit (get_or rest 1 0)) → new ≡ bs ++ (b ∷ [])
-    → read_then bs (pairs rest) ≡ r → read_then new (pairs (take (length rest - 2) (drop 2 rest))) ≡ r
-one_more_pair rest bs new b r two is grown e =
-    let tail = pairs (take (length rest - 2) (drop 2 rest)) in
-    ap (λ bytes. read_then bytes tail) grown ∙ read_then_one_more bs b tail ∙ ap (λ o. read_then bs (in_front o tail)) is ∙ sym (ap (read_then bs) (pairs_of_front rest two)) ∙ e
-
--- the next two bytes of the rest are no digits
-pub no_pair : (rest bs : List ℕ) (r : Option (List ℕ)) → 2 ≤ length rest
-    → None ≡ byte_of (hex_digit (get_or rest 0 0)) (hex_digit (get_or rest 1 0)) → read_then bs (pairs rest) ≡ r → None ≡ r
-no_pair rest bs r two is e =
-    let tail = pairs (take (length rest - 2) (drop 2 rest)) in
-    ap (λ o. read_then bs (in_front o tail)) is ∙ sym (ap (read_then bs) (pairs_of_front rest two)) ∙ e
-
--- nothing is left of the word
-pub no_rest : (rest bs : List ℕ) (r : Option (List ℕ)) → length rest ≡ 0 → read_then bs (pairs rest) ≡ r → Some bs ≡ r
-no_rest [] bs r none e = sym (ap Some (append-nil bs)) ∙ e
-no_rest (c ∷ cs) bs r none e = absurd (omega arith)
-
--- one digit is left over
-pub odd_rest : (rest bs : List ℕ) (r : Option (List ℕ)) → length rest < 2 → (length rest ≡ 0 → ⊥) → read_then bs (pairs rest) ≡ r → None ≡ r
-odd_rest [] bs r short some e = absurd (some refl)
-odd_rest (c ∷ []) bs r short some e = e
-odd_rest (c ∷ (d ∷ cs)) bs r short some e = absurd (omega arith)
+pub one_more_pair : (rest pair tail bs new : List ℕ) (b : ℕ) (r : Option (List ℕ)) → rest ≡ pair ++ tail → length pair ≡ 2
+    → Some b ≡ byte_of (hex_digit (get_or pair 0 0)) (hex_digit (get_or pair 1 0)) → new ≡ bs ++ (b ∷ [])
+    → read_then bs (pairs rest) ≡ r → read_then new (pairs tail) ≡ r
+one_more_pair rest [] tail bs new b r is two byte grown e = absurd (omega arith)
+one_more_pair rest (high ∷ []) tail bs new b r is two byte grown e = absurd (omega arith)
+one_more_pair rest (high ∷ (low ∷ [])) tail bs new b r is two byte grown e =
+    ap (λ bytes. read_then bytes (pairs tail)) grown ∙ read_then_one_more bs b (pairs tail) ∙ ap (λ o. read_then bs (in_front o (pairs tail))) byte ∙ ap (λ cs. read_then bs (pairs cs)) (sym is) ∙ e
+one_more_pair rest (high ∷ (low ∷ (c ∷ cs))) tail bs new b r is two byte grown e = absurd (omega arith)
 
 -- a word of two bytes or more is read by pairs
 pub long_word : (word : List ℕ) → 2 ≤ length word → pairs word ≡ hex_bytes word

@@ -15,11 +15,8 @@ pub fn read_decimal(word: &[u8]) -> Option<u64>
     if word.is_empty() {
         return None;
     }
-    let mut number: u64 = 0;
-    for byte in word {
-        number = with_digit(number, *byte)?;
-    }
-    Some(number)
+    word.iter()
+        .try_fold(0, |number, byte| with_digit(number, *byte))
 }
 
 /// The number that stands there once one more digit is written behind `number`.

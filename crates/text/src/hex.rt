@@ -26,19 +26,16 @@ fn read_pairs(heap: Global, word: &[u8]) -> Result<Option<Vec<u8>>, AllocError>
     ensures { IfOk result (λ o. option_map vec_items o ≡ pairs word.now) }
 {
     let mut bytes = Vec::new(heap);
-    let mut rest = word;
-    while let [high, low, tail @ ..] = rest {
+    for pair in word.chunks(2) {
+        let [high, low] = pair else {
+            return Ok(None);
+        };
         let Some(byte) = read_byte(*high, *low) else {
             return Ok(None);
         };
         bytes.push(byte)?;
-        rest = tail;
     }
-    if rest.is_empty() {
-        Ok(Some(bytes))
-    } else {
-        Ok(None)
-    }
+    Ok(Some(bytes))
 }
 
 /// The byte that two hex digits stand for, or `None` where one of them is no digit.
