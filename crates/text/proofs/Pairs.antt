@@ -1,5 +1,6 @@
 -- Pairs of hex digits: read one after another they give what the whole word reads as, and written ones read back.
 use Rattle.std.proofs.Common.{◌≡◌, ℕ, ◌+◌, ◌-◌, ◌/◌, ◌%◌, ◌^◌, false, ◌<◌, ◌≤◌, List, [], ◌∷◌, ◌++◌, length, get_or, take, Some, None, Option, sym, refl, ap, ◌∙◌, arith}
+use Rattle.std.specs.Option.{option_map}
 use Rattle.std.specs.List.{flat_map, AllByRecursion}
 use Rattle.std.proofs.lemmas.List.{append_assoc, take_more, flat_map_more}
 use Rattle.std.proofs.lemmas.Bool.Decides.{nat_tests}
@@ -7,14 +8,10 @@ use Rattle.std.proofs.lemmas.Fmt.{hex_byte}
 use Rattle.std.specs.Fmt.{digits, digit_glyph, format_spec, padded_integral}
 use Rattle.text.specs.Hex.{hex_digit, byte_of, in_front, pairs, hex_bytes, hex_character, two_digits, PrintedBytesReadBack}
 
--- bytes that are read already, in front of those that are still to come
-abbrev pub read_then : List ℕ → Option (List ℕ) → Option (List ℕ)
-read_then bs None = None
-read_then bs (Some cs) = Some (bs ++ cs)
-
-read_then_one_more : (bs : List ℕ) (b : ℕ) (o : Option (List ℕ)) → read_then (bs ++ (b ∷ [])) o ≡ read_then bs (in_front (Some b) o)
-read_then_one_more bs b None = refl
-read_then_one_more bs b (Some cs) = ap Some (append_assoc bs (b ∷ []) cs)
+-- bytes that are read already stand in front of those that are still to come
+read_one_more : (bs : List ℕ) (b : ℕ) (o : Option (List ℕ)) → option_map (λ cs. (bs ++ (b ∷ [])) ++ cs) o ≡ option_map (λ cs. bs ++ cs) (in_front (Some b) o)
+read_one_more bs b None = refl
+read_one_more bs b (Some cs) = ap Some (append_assoc bs (b ∷ []) cs)
 
 digit_reads_back : (d : ℕ) → d < 16 → hex_digit (hex_character d) ≡ Some d
 digit_reads_back d h = grind (arith, nat_tests)
@@ -34,11 +31,12 @@ reads_back (b ∷ bs) h = pairs_read_back (b ∷ bs) h
 -- one more byte is read from the rest
 pub one_more_pair : (rest pair tail bs new : List ℕ) (b : ℕ) (r : Option (List ℕ)) → rest ≡ pair ++ tail → length pair ≡ 2
     → Some b ≡ byte_of (hex_digit (get_or pair 0 0)) (hex_digit (get_or pair 1 0)) → new ≡ bs ++ (b ∷ [])
-    → read_then bs (pairs rest) ≡ r → read_then new (pairs tail) ≡ r
+    → option_map (λ cs. bs ++ cs) (pairs rest) ≡ r → option_map (λ cs. new ++ cs) (pairs tail) ≡ r
 one_more_pair rest [] tail bs new b r is two byte grown e = absurd (omega arith)
 one_more_pair rest (high ∷ []) tail bs new b r is two byte grown e = absurd (omega arith)
 one_more_pair rest (high ∷ (low ∷ [])) tail bs new b r is two byte grown e =
-    ap (λ bytes. read_then bytes (pairs tail)) grown ∙ read_then_one_more bs b (pairs tail) ∙ ap (λ o. read_then bs (in_front o (pairs tail))) byte ∙ ap (λ cs. read_then bs (pairs cs)) (sym is) ∙ e
+    ap (λ bytes. option_map (λ cs. bytes ++ cs) (pairs tail)) grown ∙ read_one_more bs b (pairs tail)
+    ∙ ap (λ o. option_map (λ cs. bs ++ cs) (in_front o (pairs tail))) byte ∙ ap (λ text. option_map (λ cs. bs ++ cs) (pairs text)) (sym is) ∙ e
 one_more_pair rest (high ∷ (low ∷ (c ∷ cs))) tail bs new b r is two byte grown e = absurd (omega arith)
 
 -- a word of two bytes or more is read by pairs

@@ -1,5 +1,5 @@
 -- Digits that are read one after another give what the whole word reads as.
-use Rattle.std.proofs.Common.{◌≡◌, ℕ, ◌+◌, ◌-◌, ◌*◌, ◌^◌, ◌<◌, ◌≤◌, Bool, true, false, cond, ◌&&◌, ltb, List, [], ◌∷◌, length, Some, None, Option, sym, refl, ap, subst, ◌∙◌, inl, inr, zero-lt-suc, mul_assoc, mul_comm, add-mul, pow-suc, zero-add, zero-mul, le-mul_of_pos_right, arith, lit<}
+use Rattle.std.proofs.Common.{◌≡◌, ℕ, ◌+◌, ◌-◌, ◌*◌, ◌^◌, ◌<◌, ◌≤◌, Bool, true, false, cond, ◌&&◌, ltb, List, [], ◌∷◌, length, Some, None, Option, option_and_then, sym, refl, ap, subst, ◌∙◌, inl, inr, zero-lt-suc, mul_assoc, mul_comm, add-mul, pow-suc, zero-add, zero-mul, le-mul_of_pos_right, arith, lit<}
 use native.Mathlib.Nat.{one-le-pow}
 use Rattle.std.proofs.lemmas.Bool.{lt-ltb, le-ltb, and_right, cases_lt}
 use Rattle.std.specs.Fn.{Called}
@@ -13,15 +13,10 @@ use Rattle.std.specs.declared.ops.ControlFlow.TheVariants.{Continue, Break}
 use denote.Param.Members.{Mut}
 use Rattle.text.specs.Decimal.{digit, all_digits, value, decimal, extended}
 
--- goes on with the number, if there is one
-abbrev pub then : Option ℕ → (ℕ → Option ℕ) → Option ℕ
-then None f = None
-then (Some n) f = f n
-
 -- the number that stands there once the bytes of a word are written behind n, one after another
 abbrev pub read_on : ℕ → List ℕ → Option ℕ
 read_on n [] = Some n
-read_on n (c ∷ cs) = then (extended n c) (λ m. read_on m cs)
+read_on n (c ∷ cs) = option_and_then (λ m. read_on m cs) (extended n c)
 
 -- the number n with the digits of a word behind it
 abbrev behind : ℕ → List ℕ → ℕ
@@ -44,7 +39,7 @@ behind_step : (n c : ℕ) (cs : List ℕ) → behind (n * 10 + (c - 48)) cs ≡ 
 behind_step n c cs = rw (pow-suc 10 (length cs)) (behind_one_more n (c - 48) (10 ^ length cs) (value cs))
 
 reads_step : (d a : Bool) (m b limit : ℕ) (f : ℕ → Option ℕ) → m ≤ b → (m < limit → f m ≡ cond (a && ltb b limit) (Some b) None)
-    → then (cond (d && ltb m limit) (Some m) None) f ≡ cond (d && a && ltb b limit) (Some b) None
+    → option_and_then f (cond (d && ltb m limit) (Some m) None) ≡ cond (d && a && ltb b limit) (Some b) None
 reads_step false a m b limit f le e = refl
 reads_step true a m b limit f le e =
     elim (cases_lt m limit) [
@@ -79,7 +74,7 @@ module _ {S A F : Type 0} (E : Type 0) (steps : S → Option A → S → Type 0)
   read_on_ends [] s (Some x) f n r yields step ends = absurd (yields x u step)
   read_on_ends (c ∷ cs) s (Some x) f n r yields step ends =
       let none : extended n c ≡ None = ap (extended n) (sym (yields.1 x u step).0) ∙ sym (extends f n x ends.0 ends.1 ends.3) ∙ ends.4 in
-      ends.5 ∙ ap (λ o. then o (λ m. read_on m cs)) (sym none)
+      ends.5 ∙ ap (option_and_then (λ m. read_on m cs)) (sym none)
 
   read_on_folds : (xs : List A) (word : List ℕ) (s : S) (end : Option A) (f f' : F) (n m : ℕ) (r : Option ℕ) → AlwaysYields steps v s word → YieldsThen steps s xs end u
       → FoldsTo (TryFoldTurn g Goes) (f, n) xs (f', m) → Ends end f' m r → r ≡ read_on n word
@@ -90,7 +85,7 @@ module _ {S A F : Type 0} (E : Type 0) (steps : S → Option A → S → Type 0)
       let next = yields.1 x gave.1.0 gave.1.1 in
       let turn = folds.1 in
       let some : extended n c ≡ Some folds.0.1 = ap (extended n) (sym next.0) ∙ sym (extends f n x turn.0 folds.0.0 turn.1) ∙ turn.2 in
-      read_on_folds xs cs gave.1.0 end folds.0.0 f' folds.0.1 m r next.1 (gave.0, gave.1.2, gave.2) folds.2 ends ∙ ap (λ o. then o (λ k. read_on k cs)) (sym some)
+      read_on_folds xs cs gave.1.0 end folds.0.0 f' folds.0.1 m r next.1 (gave.0, gave.1.2, gave.2) folds.2 ends ∙ ap (option_and_then (λ k. read_on k cs)) (sym some)
 
 module _ {S A F E : Type 0} {steps : S → Option A → S → Type 0} {v : A → ℕ} {g : Mut F (ℕ × (A × Unit {0})) (Option ℕ)} {s : S} {word : List ℕ} (u : S) (f : F) (n : ℕ) (r : Option ℕ) where
   pub read_on_from_try_fold : TryFoldsItems steps g (λ o (c : ControlFlow E ℕ). o ≡ continue_value c) (λ _ o. o ≡ None) s f n r u → YieldsList steps v s word
