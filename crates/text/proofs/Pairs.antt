@@ -1,8 +1,8 @@
 -- Pairs of hex digits: read one after another they give what the whole word reads as, and written ones read back.
-use Rattle.std.proofs.Common.{◌≡◌, ℕ, ◌+◌, ◌-◌, ◌/◌, ◌%◌, ◌^◌, false, ◌<◌, ◌≤◌, List, [], ◌∷◌, ◌++◌, length, get_or, take, Some, None, Option, sym, refl, ap, ◌∙◌, arith}
+use Rattle.std.proofs.Common.{◌≡◌, ℕ, ◌-◌, ◌/◌, ◌%◌, ◌^◌, false, ◌<◌, ◌≤◌, List, [], ◌∷◌, ◌++◌, length, get_or, Some, None, Option, sym, refl, ap, ◌∙◌, arith}
 use Rattle.std.specs.Option.{option_map}
 use Rattle.std.specs.List.{flat_map, AllByRecursion}
-use Rattle.std.proofs.lemmas.List.{append_assoc, take_more, flat_map_more}
+use Rattle.std.proofs.lemmas.List.{append_assoc}
 use Rattle.std.proofs.lemmas.Bool.Decides.{nat_tests}
 use Rattle.std.proofs.lemmas.Fmt.{hex_byte}
 use Rattle.std.specs.Fmt.{digits, digit_glyph, format_spec, padded_integral}
@@ -49,15 +49,5 @@ glyph_is_character : (d : ℕ) → digit_glyph false d ≡ hex_character d
 glyph_is_character d = grind (arith, nat_tests)
 
 -- `{:02x}` writes the two digits of a byte
-two_digits_written : (b : ℕ) → b < 256 → padded_integral (format_spec 32 0 4 2 (2 ^ 64 - 1)) false [] (digits 16 false b) ≡ two_digits b
+pub two_digits_written : (b : ℕ) → b < 256 → padded_integral (format_spec 32 0 4 2 (2 ^ 64 - 1)) false [] (digits 16 false b) ≡ two_digits b
 two_digits_written b h = hex_byte false b h ∙ rw (glyph_is_character (b / 16), glyph_is_character (b % 16)) refl
-
--- the digits of one more byte are written
-pub one_more_written : (bs text new : List ℕ) (i : ℕ) → i < length bs → get_or bs i 0 < 256 → text ≡ flat_map two_digits (take i bs)
-    → new ≡ text ++ padded_integral (format_spec 32 0 4 2 (2 ^ 64 - 1)) false [] (digits 16 false (get_or bs i 0))
-    → new ≡ flat_map two_digits (take (i + 1) bs)
-one_more_written bs text new i within byte so_far grown =
-    let written = two_digits_written (get_or bs i 0) byte in
-    let more = flat_map_more two_digits [] (take i bs) (get_or bs i 0) in
-    let step = take_more bs i 0 within in
-    cc
