@@ -67,14 +67,13 @@ module _ (rs : List Row) (g lo hi i j : ℕ) (d : Row) (f : Rising 0 rs) (small 
     (before : AllByRecursion (λ r. ends_at r < spot g lo) (take i rs)) (after : AllByRecursion (λ r. spot g lo ≤ ends_at r) (drop i rs))
     (begun : AllByRecursion (λ r. begins_at r < spot g hi + 1) (take j rs)) (behind : AllByRecursion (λ r. spot g hi + 1 ≤ begins_at r) (drop j rs)) where
   -- no row is touched
-  pub untouched : j ≤ i → Changed rs g (without_range lo hi (ranges g rs)) rs
+  pub untouched : j ≤ i → Changed rs g (without_range lo hi (ranges g rs)) (take i rs ++ ([] ++ drop j rs))
   untouched le =
       let is : take i rs ++ ([] ++ drop j rs) ≡ rs = (let e : j ≡ i = omega arith in ap (λ n. take i rs ++ drop n rs) e) ∙ take-append-drop i rs in
       let none : drop i (take j rs) ≡ [] = drop_all i (take j rs) (omega (arith, length-take-le j rs lj)) in
-      subst (Changed rs g (without_range lo hi (ranges g rs))) is
-      (cut rs g lo hi i j f small law up [] before behind (subst (Rising 0) (sym is) f) (λ p. ap (λ l. covers l p && not (within (spot g lo) (spot g hi) p)) (sym none)))
+      cut rs g lo hi i j f small law up [] before behind (subst (Rising 0) (sym is) f) (λ p. ap (λ l. covers l p && not (within (spot g lo) (spot g hi) p)) (sym none))
 
-  module _ (lt : i < j) (top : ℕ) (u : hi < (get_or rs (j - 1) d).high → top ≡ hi + 1) where
+  module _ (lt : i < j) where
     abbrev first : Row
     first = get_or rs i d
 
@@ -85,7 +84,7 @@ module _ (rs : List Row) (g lo hi i j : ℕ) (d : Row) (f : Rising 0 rs) (small 
     lower = record { label = g; low = first.low; high = lo - 1 }
 
     abbrev upper : Row
-    upper = record { label = g; low = top; high = last.high }
+    upper = record { label = g; low = hi + 1; high = last.high }
 
     first_fair : Fair first
     first_fair = fair_place 0 rs i d f (omega arith)
@@ -109,7 +108,7 @@ module _ (rs : List Row) (g lo hi i j : ℕ) (d : Row) (f : Rising 0 rs) (small 
     lower_ends h = (omega (arith, first_label), omega (arith, first_label, first_fair, first_overlaps), (small, omega (arith, first_label, first_fair, first_overlaps)))
 
     upper_ends : hi < last.high → (begins_at upper ≡ spot g hi + 1) × (ends_at upper ≡ ends_at last) × Fair upper
-    upper_ends h = let e = u h in (omega (arith, last_label, last_fair, last_overlaps), omega (arith, last_label), (small, omega (arith, last_label, last_fair, last_overlaps)))
+    upper_ends h = (omega (arith, last_label, last_fair, last_overlaps), omega (arith, last_label), (small, omega (arith, last_label, last_fair, last_overlaps)))
 
     behind_last : AllByRecursion (λ r. ends_at last + 2 ≤ begins_at r) (drop j rs)
     behind_last = let js : suc (j - 1) ≡ j = omega arith in subst (λ n. AllByRecursion (λ r. ends_at last + 2 ≤ begins_at r) (drop n rs)) js (behind_row 0 rs (j - 1) d f (omega arith))

@@ -1,6 +1,6 @@
--- Which label each set has: every set one, and every label one set.
-use Rattle.std.specs.Prelude.{◌≡◌, ℕ, ◌<◌, List, slice_index}
+-- Which label each set has: the labels are the numbers 0 to 10 in some order, so that every set has one, and every label one set.
+use Rattle.std.specs.Prelude.{ℕ, List, [], ◌∷◌}
 
--- each number below eleven stands at its place's number in the other list
-abbrev pub Back : List ℕ → List ℕ → Type 0
-Back xs ys = (n : ℕ) → n < 11 → (slice_index xs n < 11) × (slice_index ys (slice_index xs n) ≡ n)
+-- each set's own number
+abbrev pub own : List ℕ
+own = 0 ∷ 1 ∷ 2 ∷ 3 ∷ 4 ∷ 5 ∷ 6 ∷ 7 ∷ 8 ∷ 9 ∷ 10 ∷ []

@@ -6,4 +6,4 @@ pub mod Searches
 pub mod Orders
 pub mod Spots
 pub mod Meanings
-pub mod Swaps
+pub mod Owners

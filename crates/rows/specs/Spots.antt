@@ -1,17 +1,14 @@
 -- The ranges under a label: canonical, and found by their spots.
-use Rattle.std.specs.Prelude.{◌≡◌, ℕ, ◌+◌, ◌-◌, ◌*◌, ◌^◌, ◌<◌, ◌≤◌, true, false, ◌⊎◌, List, [], ◌∷◌, ◌++◌, take, drop, Some, None, Option, ◌==◌, ◌≢◌, nat_le, slice_index_or, refl}
-use Rattle.std.proofs.Common.{sym, ap, subst, ◌∙◌, inl, inr, arith, take-append-drop}
+use Rattle.std.specs.Prelude.{◌≡◌, ℕ, ◌+◌, ◌-◌, ◌*◌, ◌^◌, ◌<◌, ◌≤◌, List, [], ◌∷◌, ◌++◌, length, take, drop, Some, None, Option, ◌==◌, ◌≢◌, slice_index_or, refl}
+use Rattle.std.proofs.Common.{sym, ap, subst, ◌∙◌, arith, take-append-drop}
 use Rattle.std.specs.List.{AllByRecursion}
-use Rattle.std.proofs.lemmas.Bool.{cond_both, cond-true, cond-false, eq-eqb, ne_eqb, eqb-true, lt-ltb, le-ltb, le-leb, lt-leb, cases_lt}
-use Rattle.std.proofs.lemmas.Bool.Decides.{nat_tests}
-use Rattle.store.specs.Ranges.{Span, place, within, has, From, Canonical, next_range, LowestNotBelow, LowestOrNone}
+use Rattle.std.proofs.lemmas.Bool.{cond_both, cond-true, cond-false, eq-eqb, ne_eqb, eqb-true, lt-ltb, le-ltb}
+use Rattle.store.specs.Ranges.{Span, place, From, Canonical, next_range, LowestOrNone}
 use Rattle.store.proofs.Nexts.{next_is_lowest}
 use Rattle.rows.specs.declared.row.Row.{Row}
 use Rattle.rows.specs.Rows.{spot, begins_at, ends_at, Fair, Rising, ranges}
-use Rattle.rows.specs.declared.table.Table.{Table}
-use Rattle.rows.specs.Tables.{rows_of}
-use Rattle.rows.specs.Orders.{fair_rows, rising-take}
-use Rattle.rows.specs.Searches.{in_order, here, ends_late, read_rest, no_rest}
+use Rattle.rows.specs.Orders.{fair_rows, rising-take, rising_rest}
+use Rattle.std.proofs.lemmas.List.{drop_more, drop_all}
 
 ranges_from : (n m s : ℕ) (rs : List Row) → m ≤ n - s * 2 ^ 66 → Rising n rs → From m (ranges s rs)
 ranges_from n m s [] h f = tt
@@ -39,44 +36,33 @@ passed s n (x ∷ xs) ys f a =
     cond-true _ _ _ (lt-ltb _ _ lt) ∙ passed s n xs ys f.1 a.1)
     (λ e. passed s n xs ys f.1 a.1)
 
--- the first row that does not end before a number's spot
-module _ (t : Table) (s n i at : ℕ) (is_at : at ≡ spot s n) (found : AllByRecursion (λ r. ends_at r < at) (take i (rows_of t))) where
-  before : AllByRecursion (λ r. ends_at r < spot s n) (take i (rows_of t))
-  before = subst (λ x. AllByRecursion (λ r. ends_at r < x) (take i (rows_of t))) is_at found
+-- the rows before a place end before a number's spot
+module _ (rs : List Row) (f : Rising 0 rs) (s n i : ℕ) (before : AllByRecursion (λ r. ends_at r < spot s n) (take i rs)) where
+  from_here : next_range (ranges s rs) n ≡ next_range (ranges s (drop i rs)) n
+  from_here = ap (λ l. next_range (ranges s l) n) (sym (take-append-drop i rs)) ∙ passed s n (take i rs) (drop i rs) (fair_rows 0 (take i rs) (rising-take 0 i rs f)) before
 
-  from_here : next_range (ranges s (rows_of t)) n ≡ next_range (ranges s (drop i (rows_of t))) n
-  from_here = ap (λ l. next_range (ranges s l) n) (sym (take-append-drop i (rows_of t))) ∙ passed s n (take i (rows_of t)) (drop i (rows_of t)) (fair_rows 0 (take i (rows_of t)) (rising-take 0 i (rows_of t) (in_order t))) before
+  pub next_none : length rs ≤ i → None ≡ next_range (ranges s rs) n
+  next_none h = sym (from_here ∙ ap (λ l. next_range (ranges s l) n) (drop_all i rs h))
 
-  pub next_none : t.used ≤ i → None ≡ next_range (ranges s (rows_of t)) n
-  next_none h = sym (from_here ∙ ap (λ l. next_range (ranges s l) n) (no_rest t i h))
+  -- and the row there does not
+  module _ (r : Row) (h : i < length rs) (e : r ≡ slice_index_or rs i r) (small : n < 2 ^ 64) (late : spot s n ≤ ends_at r) where
+    read_rest : drop i rs ≡ r ∷ drop (i + 1) rs
+    read_rest = drop_more rs i r h ∙ ap (λ x. x ∷ drop (i + 1) rs) (sym e)
 
-  module _ (r : Row) (h : i < t.used) (e : r ≡ slice_index_or t.memory.places.items i r) (small : n < 2 ^ 64) (after : AllByRecursion (λ x. at ≤ ends_at x) (drop i (rows_of t))) where
-    late : spot s n ≤ ends_at r
-    late = subst (λ x. x ≤ ends_at r) is_at (ends_late t at i found r h e after)
+    here : Rising 0 (r ∷ drop (i + 1) rs)
+    here = subst (Rising 0) read_rest (rising_rest 0 i rs f)
 
-    pub next_found : r.label ≡ s → Some (r.low, r.high) ≡ next_range (ranges s (rows_of t)) n
+    pub next_found : r.label ≡ s → Some (r.low, r.high) ≡ next_range (ranges s rs) n
     next_found is =
-        let g = here t (spot s n) i before r h e in
-        let le : n ≤ r.high = omega (arith, late, g.1) in
-        sym (from_here ∙ ap (λ l. next_range (ranges s l) n) (read_rest t i r h e) ∙ ap (λ l. next_range l n) (cond-true _ _ _ (eq-eqb r.label s is)) ∙ cond-false _ _ _ (le-ltb r.high n le))
+        let le : n ≤ r.high = omega (arith, late, here.1) in
+        sym (from_here ∙ ap (λ l. next_range (ranges s l) n) read_rest ∙ ap (λ l. next_range l n) (cond-true _ _ _ (eq-eqb r.label s is)) ∙ cond-false _ _ _ (le-ltb r.high n le))
 
-    pub next_other : (r.label ≢ s) → None ≡ next_range (ranges s (rows_of t)) n
+    pub next_other : (r.label ≢ s) → None ≡ next_range (ranges s rs) n
     next_other ne =
-        let g = here t (spot s n) i before r h e in
-        let past : (s + 1) * 2 ^ 66 ≤ begins_at r = omega (arith, g.1, late) in
-        sym (from_here ∙ ap (λ l. next_range (ranges s l) n) (read_rest t i r h e) ∙ ap (λ l. next_range l n) (none_under (begins_at r) s (r ∷ drop (i + 1) (rows_of t)) past (omega arith, g.1, g.2)))
+        let past : (s + 1) * 2 ^ 66 ≤ begins_at r = omega (arith, here.1, late) in
+        sym (from_here ∙ ap (λ l. next_range (ranges s l) n) read_rest ∙ ap (λ l. next_range l n) (none_under (begins_at r) s (r ∷ drop (i + 1) rs) past (omega arith, here.1, here.2)))
 
--- an ID is in a set exactly if the next range from it on begins at it or before
+-- the answer by members follows from the answer by the list
 module _ (rs : List Span) (id : ℕ) (f : Canonical rs) where
   pub by_members : (o : Option Span) → o ≡ next_range rs id → LowestOrNone rs id o
   by_members o e = subst (LowestOrNone rs id) (sym e) (next_is_lowest 0 rs id f)
-
-  pub held_in : (low high : ℕ) → Some (low, high) ≡ next_range rs id → nat_le low id ≡ has rs id
-  held_in low high e = go (by_members (Some (low, high)) e) (cases_lt id low)
-    where
-      go : LowestNotBelow rs id (low, high) → (id < low) ⊎ (low ≤ id) → nat_le low id ≡ has rs id
-      go r (inl lt) = lt-leb _ _ lt ∙ sym (r.none_lower id (omega arith) lt)
-      go r (inr ge) = let w : within low high id ≡ true = grind (arith, nat_tests, r.reaches) in le-leb _ _ ge ∙ sym (r.whole id w)
-
-  pub held_none : None ≡ next_range rs id → false ≡ has rs id
-  held_none e = sym (by_members None e id (omega arith))

@@ -1,108 +1,110 @@
 // A range put under a label or taken from under it, and a label cleared.
-ghost use Rattle.std.specs.Prelude.{◌≡◌, ◌+◌, ◌-◌, ◌^◌, ◌<◌, ◌≤◌, min, max, [], ◌++◌, length, vec_len, nat_lt, slice_index_or, slice_range};
+ghost use Rattle.std.specs.Prelude.{◌≡◌, None, ◌+◌, ◌-◌, ◌<◌, ◌^◌, ◌≤◌, min, max, [], ◌++◌, length, nat_lt, option_to_list, slice_index_or};
 ghost use Rattle.store.specs.Ranges.{with_range, without_range};
 ghost use Rattle.rows.specs.declared.row.Row.{Row as RowT};
-ghost use Rattle.rows.specs.Rows.{ranges};
-ghost use Rattle.rows.specs.Tables.{rows_of, maybe, Changed, ChangedIfItFits};
+ghost use Rattle.rows.specs.Rows.{Rising, ranges};
+ghost use Rattle.rows.specs.Tables.{rows_of, maybe, spliced, HoldsIfItFits, Becomes, BecomesIfItFits};
 
 use crate::row::Row;
 use crate::search::spot;
-use crate::table::{Label, Table};
+use crate::table::{Label, Stretch, Table};
 use store::{Range, StoreRefusal};
+
+// One row for the range and the rows that it meets.
+fn joined(label: Label, range: Range, met: &[Row]) -> Row
+    ensures alone { length met.now ≡ 0 → result ≡ record { label = label.value; low = range.low; high = range.high } }
+    ensures whole { (d : RowT) → 0 < length met.now → result ≡ record { label = label.value; low = min range.low (slice_index_or met.now 0 d).low; high = max range.high (slice_index_or met.now (length met.now - 1) d).high } }
+{
+    match (met.first(), met.last()) {
+        (Some(first), Some(last)) => Row {
+            label: label.value,
+            low: range.low().min(first.low),
+            high: range.high().max(last.high),
+        },
+        _ => Row {
+            label: label.value,
+            low: range.low(),
+            high: range.high(),
+        },
+    }
+}
+
+// What the range leaves below it of the rows that it meets.
+fn part_below(label: Label, range: Range, met: &[Row]) -> Option<Row>
+    ensures none { length met.now ≡ 0 → result ≡ None }
+    ensures some { (d : RowT) → 0 < length met.now → option_to_list result ≡ maybe (nat_lt (slice_index_or met.now 0 d).low range.low) (record { label = label.value; low = (slice_index_or met.now 0 d).low; high = range.low - 1 }) }
+{
+    let first = met.first()?;
+    (first.low < range.low()).then(|| Row {
+        label: label.value,
+        low: first.low,
+        high: range.low() - 1,
+    })
+}
+
+// What the range leaves above it of the rows that it meets.
+fn part_above(label: Label, range: Range, met: &[Row]) -> Option<Row>
+    ensures none { length met.now ≡ 0 → result ≡ None }
+    ensures some { (d : RowT) → 0 < length met.now → option_to_list result ≡ maybe (nat_lt range.high (slice_index_or met.now (length met.now - 1) d).high) (record { label = label.value; low = range.high + 1; high = (slice_index_or met.now (length met.now - 1) d).high }) }
+{
+    let last = met.last()?;
+    (range.high() < last.high).then(|| Row {
+        label: label.value,
+        low: range.high() + 1,
+        high: last.high,
+    })
+}
 
 impl Table {
     /// Puts the range's IDs under the label; refused as full where that takes more rows than there are.
     pub(crate) fn put(&mut self, label: Label, range: Range) -> Result<(), StoreRefusal>
-        ensures len { vec_len self.new.memory.places ≡ vec_len self.old.memory.places }
-        ensures rows { ChangedIfItFits (vec_len self.old.memory.places) (rows_of self.old) label.value (with_range range.low range.high (ranges label.value (rows_of self.old))) (rows_of self.new) result }
+        ensures { BecomesIfItFits self.old self.new label.value (with_range range.low range.high (ranges label.value (rows_of self.old))) result }
     {
-        let from = self.ending_before(spot(label.value, range.low()) - 1);
-        let to = self.beginning_before(spot(label.value, range.high()) + 2);
-        let row = self.joined(from, to, label, range);
-        self.replace_if_it_fits(from, to, &[row])
-    }
-
-    // One row for the range and the rows from `from` to `to`.
-    fn joined(&self, from: usize, to: usize, label: Label, range: Range) -> Row
-        requires { to ≤ self.now.used }
-        ensures alone { to ≤ from → result ≡ record { label = label.value; low = range.low; high = range.high } }
-        ensures whole { (d : RowT) → from < to → result ≡ record { label = label.value; low = min range.low (slice_index_or (rows_of self.now) from d).low; high = max range.high (slice_index_or (rows_of self.now) (to - 1) d).high } }
-    {
-        let low = range.low();
-        let high = range.high();
-        if from >= to {
-            return Row {
-                label: label.value,
-                low,
-                high,
-            };
-        }
-        let first = self.memory.places[from];
-        let last = self.memory.places[to - 1];
-        Row {
-            label: label.value,
-            low: low.min(first.low),
-            high: high.max(last.high),
-        }
+        let met = self.between(
+            spot(label.value, range.low()) - 1,
+            spot(label.value, range.high()) + 2,
+        );
+        let row = joined(label, range, &self.in_use()[met.from..met.to]);
+        self.replace_if_it_fits(met, &[row])
     }
 
     /// Takes the range's IDs from under the label; refused as full where that takes more rows than there are.
     pub(crate) fn take(&mut self, label: Label, range: Range) -> Result<(), StoreRefusal>
-        ensures len { vec_len self.new.memory.places ≡ vec_len self.old.memory.places }
-        ensures rows { ChangedIfItFits (vec_len self.old.memory.places) (rows_of self.old) label.value (without_range range.low range.high (ranges label.value (rows_of self.old))) (rows_of self.new) result }
+        ensures { BecomesIfItFits self.old self.new label.value (without_range range.low range.high (ranges label.value (rows_of self.old))) result }
     {
-        let from = self.ending_before(spot(label.value, range.low()));
-        let to = self.beginning_before(spot(label.value, range.high()) + 1);
-        if from >= to {
-            return Ok(());
+        let met = self.between(
+            spot(label.value, range.low()),
+            spot(label.value, range.high()) + 1,
+        );
+        let rows = &self.in_use()[met.from..met.to];
+        let below = part_below(label, range, rows);
+        let above = part_above(label, range, rows);
+        self.replace_by_parts(met, below, above)
+    }
+
+    // The rows of the stretch give way to up to two.
+    fn replace_by_parts(
+        &mut self,
+        gone: Stretch,
+        below: Option<Row>,
+        above: Option<Row>,
+    ) -> Result<(), StoreRefusal>
+        requires to { gone.to ≤ self.old.used }
+        requires rising { Rising 0 (spliced gone.from gone.to (option_to_list below ++ option_to_list above) (rows_of self.old)) }
+        ensures { HoldsIfItFits self.old self.new (spliced gone.from gone.to (option_to_list below ++ option_to_list above) (rows_of self.old)) result }
+    {
+        match (below, above) {
+            (Some(below), Some(above)) => self.replace_if_it_fits(gone, &[below, above]),
+            (Some(part), None) | (None, Some(part)) => self.replace_if_it_fits(gone, &[part]),
+            (None, None) => self.replace_if_it_fits(gone, &[]),
         }
-        let left = left_over(label.value, range, self.memory.places[from], self.memory.places[to - 1]);
-        self.replace_if_it_fits(from, to, &left.rows[left.start..left.end])
     }
 
     /// Takes all from under the label.
     pub(crate) fn clear(&mut self, label: Label)
-        ensures len { vec_len self.new.memory.places ≡ vec_len self.old.memory.places }
-        ensures rows { Changed (rows_of self.old) label.value [] (rows_of self.new) }
+        ensures { Becomes self.old self.new label.value [] }
     {
-        let from = self.ending_before(spot(label.value, 0));
-        let to = self.ending_before(spot(label.value + 1, 0));
-        self.replace(from, to, &[]);
-    }
-}
-
-// The rows of two from `start` to `end`: both, one or none.
-#[derive(Clone, Copy)]
-struct Parts {
-    rows: [Row; 2],
-    start: usize,
-    end: usize,
-}
-
-// What is left without the range of the rows from `first` to `last`: a part below it, and a part above it.
-fn left_over(label: u8, range: Range, first: Row, last: Row) -> Parts
-    ensures start { result.start ≤ result.end }
-    ensures end { result.end ≤ 2 }
-    ensures two { length result.rows ≡ 2 }
-    ensures rows { slice_range result.rows result.start result.end ≡ maybe (nat_lt first.low range.low) (record { label = label; low = first.low; high = range.low - 1 }) ++ maybe (nat_lt range.high last.high) (record { label = label; low = min (range.high + 1) (2 ^ 64 - 1); high = last.high }) }
-{
-    let low = range.low();
-    let high = range.high();
-    let lower = Row {
-        label,
-        low: first.low,
-        high: low - 1,
-    };
-    let upper = Row {
-        label,
-        low: high.saturating_add(1),
-        high: last.high,
-    };
-    let start = if first.low < low { 0 } else { 1 };
-    let end = if high < last.high { 2 } else { 1 };
-    Parts {
-        rows: [lower, upper],
-        start,
-        end,
+        let met = self.between(spot(label.value, 0), spot(label.value + 1, 0));
+        self.replace(met, &[]);
     }
 }

@@ -1,12 +1,12 @@
 // Where rows stand: binary search on the line of all labels and IDs.
-ghost use Rattle.std.specs.Prelude.{◌≡◌, ◌<◌, ◌≤◌, length, take, drop};
-ghost use Rattle.std.specs.List.{AllByRecursion};
+ghost use Rattle.std.specs.Prelude.{◌≡◌, ◌<◌, ◌≤◌, length};
+ghost use Rattle.std.specs.List.Sorted.{IsPartitionPoint};
 ghost use Rattle.store.specs.Ranges.{next_range};
 ghost use Rattle.rows.specs.Rows.{spot, begins_at, ends_at, ranges};
-ghost use Rattle.rows.specs.Tables.{rows_of};
+ghost use Rattle.rows.specs.Tables.{rows_of, Between};
 
 use crate::row::Row;
-use crate::table::{Label, Table};
+use crate::table::{Label, Stretch, Table};
 use store::COUNTERS;
 
 // How far apart on the line two labels begin: further than all IDs with a gap for each replica.
@@ -16,7 +16,7 @@ const LABEL_SPAN: u128 = 0x4_0000_0000_0000_0000;
 pub(crate) fn spot(label: u8, id: u64) -> u128
     ensures { result ≡ spot label id }
 {
-    label as u128 * LABEL_SPAN + id as u128 + (id / COUNTERS) as u128
+    u128::from(label) * LABEL_SPAN + u128::from(id) + u128::from(id / COUNTERS)
 }
 
 impl Row {
@@ -34,40 +34,38 @@ impl Row {
 }
 
 impl Table {
-    /// How many rows end before this spot.
-    pub(crate) fn ending_before(&self, at: u128) -> usize
-        ensures inside { result ≤ length (rows_of self.now) }
-        ensures before { AllByRecursion (λ x. ends_at x < at) (take result (rows_of self.now)) }
-        ensures after { AllByRecursion (λ x. at ≤ ends_at x) (drop result (rows_of self.now)) }
+    /// The rows in use.
+    pub(crate) fn in_use(&self) -> &[Row]
+        ensures { result.now ≡ rows_of self.now }
     {
-        let mut low = 0;
-        let mut high = self.used;
-        while low < high {
-            let middle = low + (high - low) / 2;
-            let row = self.memory.places[middle];
-            if row.ends_at() < at {
-                low = middle + 1;
-            } else {
-                high = middle;
-            }
-        }
-        low
+        &self.memory.places[..self.used]
+    }
+
+    /// How many rows end before this spot.
+    fn ending_before(&self, at: u128) -> usize
+        ensures inside { result ≤ length (rows_of self.now) }
+        ensures point { IsPartitionPoint (λ r. ends_at r < at) (λ r. at ≤ ends_at r) (rows_of self.now) result }
+    {
+        self.in_use().partition_point(|row| row.ends_at() < at)
     }
 
     /// How many rows begin before this spot.
-    pub(crate) fn beginning_before(&self, at: u128) -> usize
+    fn beginning_before(&self, at: u128) -> usize
         ensures inside { result ≤ length (rows_of self.now) }
-        ensures before { AllByRecursion (λ x. begins_at x < at) (take result (rows_of self.now)) }
-        ensures after { AllByRecursion (λ x. at ≤ begins_at x) (drop result (rows_of self.now)) }
+        ensures point { IsPartitionPoint (λ r. begins_at r < at) (λ r. at ≤ begins_at r) (rows_of self.now) result }
     {
-        let ended = self.ending_before(at);
-        if ended < self.used {
-            let row = self.memory.places[ended];
-            if row.begins_at() < at {
-                return ended + 1;
-            }
+        self.in_use().partition_point(|row| row.begins_at() < at)
+    }
+
+    /// The rows that reach the spot `from` and begin before the spot `to`.
+    pub(crate) fn between(&self, from: u128, to: u128) -> Stretch
+        requires { from ≤ to }
+        ensures { Between (rows_of self.now) from to result.from result.to }
+    {
+        Stretch {
+            from: self.ending_before(from),
+            to: self.beginning_before(to),
         }
-        ended
     }
 
     /// The lowest range under the label whose high end is not below `n`.
@@ -75,12 +73,9 @@ impl Table {
         ensures { result ≡ next_range (ranges label.value (rows_of self.now)) n }
     {
         let found = self.ending_before(spot(label.value, n));
-        if found < self.used {
-            let row = self.memory.places[found];
-            if row.label == label.value {
-                return Some((row.low, row.high));
-            }
+        match self.in_use().get(found) {
+            Some(row) if row.label == label.value => Some((row.low, row.high)),
+            _ => None,
         }
-        None
     }
 }

@@ -20,3 +20,11 @@ pub struct Label {
     pub(crate) value: u8,
     ghost small: { value < 11 },
 }
+
+/// Rows that stand together, from the place `from` up to the place `to`.
+#[derive(Clone, Copy)]
+pub struct Stretch {
+    pub(crate) from: usize,
+    pub(crate) to: usize,
+    ghost up: { from ≤ to },
+}

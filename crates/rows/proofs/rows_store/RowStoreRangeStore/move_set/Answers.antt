@@ -9,5 +9,5 @@ use Rattle.rows.proofs.rows_store.RowStoreRangeStore.move_set.Goals as goal
 pub returns-then-ne : goal.returns-then-ne
 returns-then-ne c =
     let x = c.args.self.now in
-    let model = sets_moved x.labels.label x.labels.owner x.labels.owned x.labels.labels (rows_of x.table) (rows_of c.clear.new.self) c.args.from c.args.to c.of.result.value c.swap.new.self.label (λ e. (let s : c.args.from ≡ c.args.to = same_name c.args.from c.args.to e in search rules)) c.of.ensures c.clear.ensures.rows c.swap.ensures in
-    record { room = c.clear.ensures.len; model = model; members = moved_members (meaning x) _ c.args.from c.args.to model }
+    let model = sets_moved x.labels.label x.labels.permuted (rows_of x.table) (rows_of c.clear.new.self) c.args.from c.args.to c.of.result.value c.swap.new.self.label (λ e. (let s : c.args.from ≡ c.args.to = same_name c.args.from c.args.to e in search rules)) c.of.ensures c.clear.ensures.rows c.swap.ensures in
+    record { room = c.clear.ensures.room; model = model; members = moved_members (meaning x) _ c.args.from c.args.to model }

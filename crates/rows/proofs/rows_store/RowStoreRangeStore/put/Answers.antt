@@ -13,5 +13,5 @@ returns c =
     let x = c.args.self.now in
     let t = c.put.new.self in
     let r = c.args.range in
-    let model = granted x.labels.label x.labels.owner x.labels.owned x.labels.labelled (vec_len x.table.memory.places) (rows_of x.table) (rows_of t) c.args.set c.of.result.value (with_range r.low r.high) c.put.result c.of.ensures (omega (arith, in_use t, t.fits, c.put.ensures.len)) c.put.ensures.rows in
-    record { room = c.put.ensures.len; model = model; members = granted_added (vec_len x.table.memory.places) (meaning x) _ c.args.set r.low r.high r.rising c.put.result (ranges_canonical _ _ (in_order x.table)) model }
+    let model = granted x.labels.label x.labels.permuted (vec_len x.table.memory.places) (rows_of x.table) (rows_of t) c.args.set c.of.result.value (with_range r.low r.high) c.put.result c.of.ensures (omega (arith, in_use t, t.fits, c.put.ensures.room)) c.put.ensures.rows in
+    record { room = c.put.ensures.room; model = model; members = granted_added (vec_len x.table.memory.places) (meaning x) _ c.args.set r.low r.high r.rising c.put.result (ranges_canonical _ _ (in_order x.table)) model }

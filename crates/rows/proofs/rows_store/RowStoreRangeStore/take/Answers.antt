@@ -12,5 +12,5 @@ returns c =
     let x = c.args.self.now in
     let t = c.take.new.self in
     let r = c.args.range in
-    let model = granted x.labels.label x.labels.owner x.labels.owned x.labels.labelled (vec_len x.table.memory.places) (rows_of x.table) (rows_of t) c.args.set c.of.result.value (without_range r.low r.high) c.take.result c.of.ensures (omega (arith, in_use t, t.fits, c.take.ensures.len)) c.take.ensures.rows in
-    record { room = c.take.ensures.len; model = model; members = granted_removed (vec_len x.table.memory.places) (meaning x) _ c.args.set r.low r.high r.rising c.take.result model }
+    let model = granted x.labels.label x.labels.permuted (vec_len x.table.memory.places) (rows_of x.table) (rows_of t) c.args.set c.of.result.value (without_range r.low r.high) c.take.result c.of.ensures (omega (arith, in_use t, t.fits, c.take.ensures.room)) c.take.ensures.rows in
+    record { room = c.take.ensures.room; model = model; members = granted_removed (vec_len x.table.memory.places) (meaning x) _ c.args.set r.low r.high r.rising c.take.result model }

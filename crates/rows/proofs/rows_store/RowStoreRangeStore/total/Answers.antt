@@ -7,4 +7,4 @@ use Rattle.rows.proofs.rows_store.RowStoreRangeStore.total.Goals as goal
 pub returns : goal.returns
 returns c =
     let x = c.args.self.now in
-    sym (all_counted x.labels.label x.labels.owner x.labels.owned x.labels.labelled 0 _ (in_order x.table) ∙ in_use x.table)
+    sym (all_counted x.labels.label x.labels.permuted 0 _ (in_order x.table) ∙ in_use x.table)

@@ -4,9 +4,6 @@ use Rattle.rows.specs.Rows.{Rising}
 use Rattle.rows.specs.Orders.{rising_test}
 use Rattle.rows.proofs.table.Table.replace.Goals as goal
 
-pub invariant_of-self : goal.invariant_of-self
-invariant_of-self c = (omega arith, tt)
-
 pub invariant_of-self-2 : goal.invariant_of-self-2
 invariant_of-self-2 c = record {
   fits = omega arith;
