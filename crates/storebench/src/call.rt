@@ -1,8 +1,11 @@
 // The calls of a workload, and how one is read from a line.
+use std::error::Error;
+use std::fmt;
+use std::str::FromStr;
 use store::Range;
 
 /// A call of a workload. All are on one set.
-#[derive(Clone, Copy)]
+#[derive(Clone, Copy, Debug, PartialEq, Eq)]
 pub enum Call {
     Put(Range),
     Take(Range),
@@ -13,29 +16,40 @@ pub enum Call {
     Move(u64),
 }
 
-fn range(ends: &str) -> Option<Range> {
-    let Some((low, high)) = ends.split_once(' ') else {
-        return None;
-    };
-    match (low.parse::<u64>(), high.parse::<u64>()) {
-        (Ok(low), Ok(high)) => Range::new(low, high),
+/// A line that is no call, or that names a range that cannot exist.
+#[derive(Clone, Copy, Debug, PartialEq, Eq)]
+pub struct NoCall;
+
+impl fmt::Display for NoCall {
+    fn fmt<W: fmt::Write>(&self, f: &mut fmt::Formatter<W>) -> fmt::Result {
+        f.write_str("no call of a workload")
+    }
+}
+
+impl Error for NoCall {}
+
+fn read_range(ends: &str) -> Option<Range> {
+    let (low, high) = ends.split_once(' ')?;
+    Range::new(low.parse().ok()?, high.parse().ok()?)
+}
+
+fn read_call(line: &str) -> Option<Call> {
+    if line == "walk" {
+        return Some(Call::Walk);
+    }
+    match line.split_once(' ')? {
+        ("put", ends) => read_range(ends).map(Call::Put),
+        ("take", ends) => read_range(ends).map(Call::Take),
+        ("hold", id) => id.parse().ok().map(Call::Hold),
+        ("move", times) => times.parse().ok().map(Call::Move),
         _ => None,
     }
 }
 
-/// The call that a line is; none if it is no call, or names a range that cannot exist.
-pub fn read_call(line: &str) -> Option<Call> {
-    if line == "walk" {
-        return Some(Call::Walk);
-    }
-    let Some((name, rest)) = line.split_once(' ') else {
-        return None;
-    };
-    match (name, range(rest), rest.parse::<u64>()) {
-        ("put", Some(range), _) => Some(Call::Put(range)),
-        ("take", Some(range), _) => Some(Call::Take(range)),
-        ("hold", _, Ok(n)) => Some(Call::Hold(n)),
-        ("move", _, Ok(times)) => Some(Call::Move(times)),
-        _ => None,
+impl FromStr for Call {
+    type Err = NoCall;
+
+    fn from_str(line: &str) -> Result<Call, NoCall> {
+        read_call(line).ok_or(NoCall)
     }
 }

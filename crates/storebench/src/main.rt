@@ -6,44 +6,51 @@ mod measure;
 mod perform;
 mod workload;
 
-use measure::{StoreKind, run_over};
+use cells::CellStore;
+use measure::measure;
+use rows::RowStore;
 use std::{env, io};
+use store::InMemory;
 use workload::Workload;
 
-// The store and the number of runs that the arguments ask for.
-fn read_task(words: &[String]) -> Option<(StoreKind, u32)> {
-    let [_, store, runs] = words else {
-        return None;
-    };
-    match (store.as_str(), runs.as_str().parse::<u32>()) {
-        ("rows", Ok(runs)) => Some((StoreKind::Rows, runs)),
-        ("cells", Ok(runs)) => Some((StoreKind::Cells, runs)),
-        _ => None,
-    }
-}
-
-// The digest of a first run, and then the nanoseconds of each further one.
-fn report(rt: &HostRuntime, kind: StoreKind, workload: &Workload, runs: u32) -> io::Result<()> {
-    let first = run_over(rt, kind, workload, true)?;
-    println!(rt; "digest {}", first.digest)?;
+// The digest of a first run with all ranges after it, and then the nanoseconds of each further one.
+fn report<S: InMemory + Drop>(rt: &HostRuntime, workload: &Workload, runs: u32) -> io::Result<()>
+where
+    S::Place: Copy + Default,
+{
+    let first = measure::<S>(rt, workload)?;
+    let mut digest = first.answers;
+    digest.add_all_ranges(&first.store);
+    println!(rt; "digest {digest}")?;
     for _ in 0..runs {
-        let run = run_over(rt, kind, workload, false)?;
-        if run.answers != first.answers {
+        let next = measure::<S>(rt, workload)?;
+        if next.answers != first.answers {
             return Err(io::Error::other("two runs answered differently"));
         }
-        println!(rt; "nanoseconds {}", run.nanoseconds)?;
+        println!(rt; "nanoseconds {}", next.nanoseconds)?;
     }
     Ok(())
 }
 
-fn run(rt: &HostRuntime) -> io::Result<()> {
+fn usage() -> io::Error {
+    io::Error::other("usage: storebench rows|cells RUNS < WORKLOAD")
+}
+
+fn start(rt: &HostRuntime) -> io::Result<()> {
     let words: Vec<String> = env::args(rt)?.collect(rt.alloc())?;
-    let Some((kind, runs)) = read_task(words.as_slice()) else {
-        return Err(io::Error::other("usage: storebench rows|cells RUNS < WORKLOAD"));
+    let [_, store, runs] = words.as_slice() else {
+        return Err(usage());
     };
-    report(rt, kind, &Workload::read(rt)?, runs)
+    let Ok(runs) = runs.as_str().parse::<u32>() else {
+        return Err(usage());
+    };
+    match store.as_str() {
+        "rows" => report::<RowStore>(rt, &Workload::read(rt)?, runs),
+        "cells" => report::<CellStore>(rt, &Workload::read(rt)?, runs),
+        _ => Err(usage()),
+    }
 }
 
 fn main(rt: HostRuntime) -> io::Result<()> {
-    run(&rt)
+    start(&rt)
 }

@@ -2,6 +2,7 @@
 ghost use Rattle.std.specs.Prelude.{◌≡◌, ◌*◌, ◌%◌, ◌^◌, bit_xor};
 
 use crate::call::Call;
+use std::fmt;
 use store::{RangeStore, SetName};
 
 // The set that the workloads fill, and the one that it is moved to.
@@ -9,67 +10,72 @@ const SET: SetName = SetName::KeptGiven;
 
 const OTHER: SetName = SetName::KeptSeen;
 
-/// The digest of no values.
-pub const EMPTY: u64 = 1;
-
-// A digest with one value more.
-fn mixed(digest: u64, value: u64) -> u64
-    ensures { result ≡ bit_xor digest value * 1099511628211 % 2 ^ 64 }
-{
-    (digest ^ value).wrapping_mul(0x100_0000_01b3)
+/// A digest of values, one after another.
+#[derive(Clone, Copy, Debug, PartialEq, Eq)]
+pub struct Digest {
+    value: u64,
 }
 
-// A digest with every range of a set more, by nexts from 0 on, each from right behind the range before, until there is none.
-// A set has at most as many ranges as there are in all, and the one next more answers that.
-fn walked<S: RangeStore>(store: &S, set: SetName, mut digest: u64) -> u64 {
-    let mut n: u64 = 0;
-    for _ in 0..=store.total() {
-        let Some((low, high)) = store.next(set, n) else {
-            break;
-        };
-        digest = mixed(mixed(digest, low), high);
-        let Some(behind) = high.checked_add(1) else {
-            break;
-        };
-        n = behind;
+impl fmt::Display for Digest {
+    fn fmt<W: fmt::Write>(&self, f: &mut fmt::Formatter<W>) -> fmt::Result {
+        self.value.fmt(f)
     }
-    mixed(digest, 0)
 }
 
-// Makes a call, and gives the digest with its answer more.
-fn perform<S: RangeStore>(store: &mut S, call: Call, digest: u64) -> u64 {
-    let answer = match call {
-        Call::Put(range) => store.put(SET, range).is_ok(),
-        Call::Take(range) => store.take(SET, range).is_ok(),
-        Call::Hold(n) => store.holds(SET, n),
-        Call::Walk => return walked(store, SET, digest),
-        Call::Move(times) => {
-            for _ in 0..times {
+impl Digest {
+    /// The digest of no values.
+    pub const EMPTY: Digest = Digest { value: 1 };
+
+    // One value more.
+    fn add(&mut self, value: u64)
+        ensures { self.new.value ≡ bit_xor self.old.value value * 1099511628211 % 2 ^ 64 }
+    {
+        self.value = (self.value ^ value).wrapping_mul(0x100_0000_01b3);
+    }
+
+    // Every range of a set more, by nexts from 0 on, each from right behind the range before, until there is none.
+    fn add_ranges<S: RangeStore>(&mut self, store: &S, set: SetName) {
+        let mut n: u64 = 0;
+        while let Some((low, high)) = store.next(set, n) {
+            self.add(low);
+            self.add(high);
+            let Some(behind) = high.checked_add(1) else {
+                break;
+            };
+            n = behind;
+        }
+        self.add(0);
+    }
+
+    // Makes a call, and adds its answer.
+    fn perform<S: RangeStore>(&mut self, store: &mut S, call: Call) {
+        match call {
+            Call::Put(range) => self.add(u64::from(store.put(SET, range).is_ok())),
+            Call::Take(range) => self.add(u64::from(store.take(SET, range).is_ok())),
+            Call::Hold(n) => self.add(u64::from(store.holds(SET, n))),
+            Call::Walk => self.add_ranges(store, SET),
+            Call::Move(times) => {
+                for _ in 0..times {
+                    store.move_set(SET, OTHER);
+                    store.move_set(OTHER, SET);
+                }
                 store.move_set(SET, OTHER);
-                store.move_set(OTHER, SET);
             }
-            store.move_set(SET, OTHER);
-            return digest;
-        }
-    };
-    mixed(digest, u64::from(answer))
-}
-
-/// Makes calls, and gives the digest with their answers more.
-pub fn perform_all<S: RangeStore>(store: &mut S, calls: &[Call], mut digest: u64) -> u64 {
-    for call in calls {
-        digest = perform(store, *call, digest);
-    }
-    digest
-}
-
-/// A digest with the total more, and every range of every set.
-pub fn with_all_ranges<S: RangeStore>(store: &S, digest: u64) -> u64 {
-    let mut digest = mixed(digest, store.total() as u64);
-    for number in 0u64..11 {
-        if let Some(set) = SetName::from_number(number) {
-            digest = walked(store, set, digest);
         }
     }
-    digest
+
+    /// Makes calls, and adds their answers.
+    pub fn perform_all<S: RangeStore>(&mut self, store: &mut S, calls: &[Call]) {
+        for call in calls {
+            self.perform(store, *call);
+        }
+    }
+
+    /// The total more, and every range of every set.
+    pub fn add_all_ranges<S: RangeStore>(&mut self, store: &S) {
+        self.add(store.total() as u64);
+        for set in SetName::ALL {
+            self.add_ranges(store, set);
+        }
+    }
 }

@@ -1,5 +1,5 @@
 // A workload, and how it is read from its text.
-use crate::call::{Call, read_call};
+use crate::call::Call;
 use std::io;
 use std::io::{BufRead, BufReader, ErrorKind};
 
@@ -15,12 +15,12 @@ impl Workload {
     fn add(&mut self, line: &str) -> io::Result<()> {
         if line == "time" {
             self.before.append(&mut self.timed)?;
-        } else if let Some(call) = read_call(line) {
-            self.timed.push(call)?;
-        } else {
-            return Err(io::Error::new(ErrorKind::InvalidData, line));
+            return Ok(());
         }
-        Ok(())
+        match line.parse::<Call>() {
+            Ok(call) => Ok(self.timed.push(call)?),
+            Err(_) => Err(io::Error::new(ErrorKind::InvalidData, line)),
+        }
     }
 
     /// The workload on standard input: a call to a line, and a line `time` between those before and those that are timed.
