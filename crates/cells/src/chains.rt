@@ -1,8 +1,10 @@
 // Twelve chains through one memory of cells.
 ghost use Rattle.std.specs.Prelude.{◌≡◌, ◌<◌, ◌≤◌, length, vec_len};
+ghost use Rattle.store.specs.Sets.{number};
 ghost use Rattle.cells.specs.Links.{Running, Ending, Parted, sum};
 
 use crate::cell::{Cell, Ends};
+use store::SetName;
 
 /// A chain for each set, by its number, and behind them the chain of the free cells. Every cell is on one of them.
 #[derive(Drop)]
@@ -23,6 +25,16 @@ pub struct Chains {
 pub struct Chain {
     pub(crate) number: usize,
     ghost small: { number < 11 },
+}
+
+impl From<SetName> for Chain {
+    ghost from_gives = { λ set chain. chain.number ≡ number set };
+
+    fn from(set: SetName) -> Chain {
+        Chain {
+            number: set.number() as usize,
+        }
+    }
 }
 
 /// The gap behind so many cells of a chain; `before` is the last of them, if there are any.

@@ -24,15 +24,12 @@ fn link_all(cells: &mut Vec<Cell>)
     ensures len { vec_len cells.new ≡ vec_len cells.old }
     ensures next { (k : ℕ) → k < vec_len cells.old → (cell cells.new.items k).next ≡ k + 1 }
 {
-    let n = cells.len();
-    let mut i = 0;
-    while i < n {
-        cells[i] = Cell {
+    for (i, cell) in cells.iter_mut().enumerate() {
+        *cell = Cell {
             low: 0,
             high: 0,
             next: i + 1,
         };
-        i += 1;
     }
 }
 

@@ -12,15 +12,6 @@ use crate::cells_store::CellStore;
 use crate::chains::{Chain, Chains};
 use store::{Range, RangeStore, SetName, StoreRefusal};
 
-// The chain of a set.
-fn chain_of(set: SetName) -> Chain
-    ensures { result.number ≡ number set }
-{
-    Chain {
-        number: set.number() as usize,
-    }
-}
-
 impl CellStore {
     /// A store in these cells with every set empty, whatever they hold. Its limit is their number.
     pub fn new(checked: CheckedCells) -> CellStore
@@ -55,32 +46,31 @@ impl RangeStore for CellStore {
     ghost limited = { Prim.search rules };
 
     fn put(&mut self, set: SetName, range: Range) -> Result<(), StoreRefusal> {
-        self.chains.put(chain_of(set), range)
+        self.chains.put(Chain::from(set), range)
     }
 
     fn take(&mut self, set: SetName, range: Range) -> Result<(), StoreRefusal> {
-        self.chains.take(chain_of(set), range)
+        self.chains.take(Chain::from(set), range)
     }
 
     fn move_set(&mut self, from: SetName, to: SetName) {
-        let source = chain_of(from);
-        let target = chain_of(to);
-        if source.number != target.number {
+        if from != to {
+            let target = Chain::from(to);
             self.chains.clear(target);
-            self.chains.exchange(source, target);
+            self.chains.exchange(Chain::from(from), target);
         }
     }
 
     fn clear(&mut self, set: SetName) {
-        self.chains.clear(chain_of(set));
+        self.chains.clear(Chain::from(set));
     }
 
     fn holds(&self, set: SetName, id: u64) -> bool {
-        self.chains.holds(chain_of(set), id)
+        self.chains.holds(Chain::from(set), id)
     }
 
     fn next(&self, set: SetName, n: u64) -> Option<(u64, u64)> {
-        self.chains.next(chain_of(set), n)
+        self.chains.next(Chain::from(set), n)
     }
 
     fn total(&self) -> usize {

@@ -3,7 +3,6 @@ ghost use Rattle.std.specs.Prelude.{◌≡◌, ℕ, ◌-◌, ◌<◌, [], ◌∷
 ghost use Rattle.cells.specs.Chains.{count_of, ranges_of, Changed};
 ghost use Rattle.cells.specs.Places.{at_place};
 
-use crate::cell::Cell;
 use crate::chains::{Chain, Chains, Gap, Run};
 
 impl Chains {
@@ -46,11 +45,6 @@ impl Chains {
         ensures { Changed self.old self.new chain.number (take (count_of self.old chain.number - 1) (ranges_of self.old chain.number) ++ ((at_place (ranges_of self.old chain.number) (count_of self.old chain.number - 1)).0, high) ∷ []) }
     {
         let last = self.ends[chain.number].last;
-        let cell = self.cells[last];
-        self.cells[last] = Cell {
-            low: cell.low,
-            high,
-            next: cell.next,
-        };
+        self.cells[last].high = high;
     }
 }

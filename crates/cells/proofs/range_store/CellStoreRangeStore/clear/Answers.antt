@@ -6,10 +6,10 @@ use Rattle.cells.specs.Meanings.{one_set, still_ordered}
 use Rattle.cells.proofs.range_store.CellStoreRangeStore.clear.Goals as goal
 
 pub invariant_of-self : goal.invariant_of-self
-invariant_of-self c = let x = c.args.self.now in record { ordered = still_ordered x.chains c.clear.new.self c.chain_of.result.number [] x.ordered tt c.clear.ensures }
+invariant_of-self c = let x = c.args.self.now in record { ordered = still_ordered x.chains c.clear.new.self c.from.result.number [] x.ordered tt c.clear.ensures }
 
 pub returns : goal.returns
 returns c =
     let x = c.args.self.now in
-    let model = one_set x.chains c.clear.new.self c.chain_of.result.number c.args.set [] c.chain_of.ensures c.clear.ensures in
+    let model = one_set x.chains c.clear.new.self c.from.result.number c.args.set [] c.from.ensures c.clear.ensures in
     record { room = c.clear.ensures.room; model = model; members = emptied (meaning x) _ c.args.set model }

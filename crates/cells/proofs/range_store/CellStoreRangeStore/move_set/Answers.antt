@@ -1,8 +1,10 @@
 -- The target's chain is emptied, and the two chains change places.
+use denote.Enum.Bare.{differs_true}
 use Rattle.std.proofs.Common.{◌≡◌, sym, ◌∙◌}
 use Rattle.store.specs.Sets.{number}
 use Rattle.store.specs.Changes.{moved}
-use Rattle.store.proofs.Models.{moved_members}
+use Rattle.store.specs.contracts.sets.SetName.{the_type}
+use Rattle.store.proofs.Models.{moved_members, same_name}
 use Rattle.cells.specs.Meaning.{meaning}
 use Rattle.cells.specs.Totals.{model_of}
 use Rattle.cells.specs.Meanings.{Ordered, sets_moved, moved_ordered}
@@ -14,10 +16,10 @@ done c =
     let x = c.args.self.now in
     let y = c.clear.new.self in
     let z = c.exchange.new.self in
-    let a = c.chain_of-source in
-    let b = c.chain_of-target in
+    let a = c.from in
+    let b = c.from-target in
     let e = c.exchange.ensures in
-    let ne : number c.args.from ≡ number c.args.to → ⊥ = λ i. c.if-source-target.true (a.ensures ∙ i ∙ sym b.ensures) in (
+    let ne : number c.args.from ≡ number c.args.to → ⊥ = λ i. differs_true the_type c.args.from c.args.to (sym c.ne.ensures ∙ c.if-ne.true) (same_name c.args.from c.args.to i) in (
       moved_ordered x.chains y z c.args.from c.args.to ne a.result.number b.result.number a.ensures b.ensures c.clear.ensures e.one e.two e.others x.ordered,
       sets_moved x.chains y z c.args.from c.args.to ne a.result.number b.result.number a.ensures b.ensures c.clear.ensures e.one e.two e.others,
     )
@@ -25,7 +27,7 @@ done c =
 pub invariant_of-self : goal.invariant_of-self
 invariant_of-self c = record { ordered = (done (goal.at.invariant_of-self c).After-exchange).0 }
 
-pub returns-then-source-target : goal.returns-then-source-target
-returns-then-source-target c =
-    let model = (done (goal.at.returns-then-source-target c).After-exchange).1 in
+pub returns-then-ne : goal.returns-then-ne
+returns-then-ne c =
+    let model = (done (goal.at.returns-then-ne c).After-exchange).1 in
     record { room = c.exchange.ensures.len ∙ c.clear.ensures.room; model = model; members = moved_members (meaning c.args.self.now) _ c.args.from c.args.to model }
