@@ -1,11 +1,18 @@
 -- Up to two ranges in the place of a run of ranges.
-use Rattle.std.proofs.Common.{◌≡◌, ℕ, ◌+◌, ◌<◌, ◌≤◌, List, ◌∷◌, ◌++◌, length, take, drop, Some, None, Option, sym, ap, ◌∙◌, subst, arith, length-append, length-drop, take-append-drop}
+use Rattle.std.proofs.Common.{◌≡◌, ℕ, ◌+◌, ◌<◌, ◌≤◌, List, ◌∷◌, ◌++◌, length, take, drop, Some, None, Option, refl, sym, ap, ◌∙◌, subst, arith, length-append, length-drop, take-append-drop}
 use Rattle.std.proofs.lemmas.List.{length-take-le, take_at, drop_at}
+use Rattle.std.specs.Option.{is_some}
+use Rattle.std.specs.Int.{from_bool}
 use Rattle.store.specs.Ranges.{Span}
 use Rattle.cells.specs.declared.chains.Chains.{Chains}
 use Rattle.cells.specs.Chains.{count_of, ranges_of, free_of, Changed}
 use Rattle.cells.specs.Places.{one_or_none}
 use Rattle.cells.specs.Held.{unchanged, ranges_many}
+
+-- how many ranges there are
+pub counted : (o : Option Span) → from_bool (is_some o) ≡ length (one_or_none o)
+counted None = refl
+counted (Some r) = refl
 
 -- with a range, and with none
 module _ (x y : Chains) (k i : ℕ) (r : Option Span) (s : Span) where

@@ -31,32 +31,14 @@ fn adjoining_above(high: u64) -> u64
 fn part_below(cell: Cell, low: u64) -> Option<(u64, u64)>
     ensures { one_or_none result ≡ (if nat_lt cell.low low then (cell.low, low - 1) ∷ [] else []) }
 {
-    if cell.low < low {
-        Some((cell.low, low - 1))
-    } else {
-        None
-    }
+    (cell.low < low).then(|| (cell.low, low - 1))
 }
 
 // What is left of a range above `high`.
 fn part_above(cell: Cell, high: u64) -> Option<(u64, u64)>
     ensures { one_or_none result ≡ (if nat_lt high cell.high then (high + 1, cell.high) ∷ [] else []) }
 {
-    if high < cell.high {
-        Some((high + 1, cell.high))
-    } else {
-        None
-    }
-}
-
-// One range, or none.
-fn how_many(range: Option<(u64, u64)>) -> usize
-    ensures { result ≡ length (one_or_none range) }
-{
-    match range {
-        Some(_) => 1,
-        None => 0,
-    }
+    (high < cell.high).then(|| (high + 1, cell.high))
 }
 
 impl Chains {
@@ -145,7 +127,8 @@ impl Chains {
         requires follow { Follow self.old chain.number run.gap.place run.number run.last }
         ensures { ChangedIfItFits self.old self.new chain.number (take run.gap.place (ranges_of self.old chain.number) ++ (one_or_none lower ++ (one_or_none upper ++ drop (run.gap.place + run.number) (ranges_of self.old chain.number)))) result }
     {
-        if self.free() + run.number < how_many(lower) + how_many(upper) {
+        let wanted = usize::from(lower.is_some()) + usize::from(upper.is_some());
+        if self.free() + run.number < wanted {
             return Err(StoreRefusal::Full);
         }
         self.remove(chain, run);
@@ -162,9 +145,8 @@ impl Chains {
         ensures stands { Stands self.new chain.number gap.place gap.before }
         ensures free { free_of self.new + length (one_or_none range) ≡ free_of self.old }
     {
-        match range {
-            Some((low, high)) => self.insert(chain, gap, low, high),
-            None => {}
+        if let Some((low, high)) = range {
+            self.insert(chain, gap, low, high);
         }
     }
 }

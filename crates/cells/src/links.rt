@@ -9,9 +9,6 @@ use crate::chains::{Chain, Chains, Gap, Run};
 // The number of the free chain.
 const FREE: usize = 11;
 
-// A number that no cell has.
-const NONE: usize = 65535;
-
 // `one` where the test holds, else `other`.
 fn pick(test: bool, one: usize, other: usize) -> usize
     ensures { result ≡ (if test then one else other) }
@@ -43,8 +40,8 @@ impl Chains {
         let n = cells.len();
         link_all(&mut cells);
         let mut ends = [Ends {
-            first: NONE,
-            last: NONE,
+            first: n,
+            last: n,
             count: 0,
         }; 12];
         ends[FREE] = Ends {

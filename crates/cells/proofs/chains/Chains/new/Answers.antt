@@ -11,9 +11,6 @@ whole c = sym c.link_all.new.cells.ok.0 ∙ c.link_all.ensures.len ∙ sym c.len
 some : (c : After-link_all) → 0 < c.len-n.result
 some c = omega (arith, c.len-n.ensures, c.args.checked.least)
 
-most : (c : After-link_all) → c.len-n.result ≤ 65535
-most c = omega (arith, c.len-n.ensures, c.args.checked.most)
-
 next : (c : After-link_all) (k : ℕ) → k < c.len-n.result → (cell (vec_items c.link_all.new.cells) k).next ≡ k + 1
 next c k h = c.link_all.ensures.next k (omega (arith, c.len-n.ensures))
 
@@ -26,13 +23,13 @@ invariant_of-result c =
       least = omega (arith, c.link_all.ensures.len, c.args.checked.least);
       most = omega (arith, c.link_all.ensures.len, c.args.checked.most);
       twelve = refl;
-      running = fresh_running v n (whole d) (some d) (most d) (next d);
-      ending = fresh_ending v n (whole d) (some d) (most d) (next d);
-      parted = fresh_parted v n (whole d) (some d) (most d) (next d);
+      running = fresh_running v n (whole d) (some d) (next d);
+      ending = fresh_ending v n (whole d) (some d) (next d);
+      parted = fresh_parted v n (whole d) (some d) (next d);
       whole = fresh_sum 11 n ∙ c.len-n.ensures ∙ sym c.link_all.ensures.len;
     }
 
 pub returns : goal.returns
 returns c =
     let d = (goal.at.returns c).After-link_all in
-    record { len = c.link_all.ensures.len; empty = fresh_empty (vec_items c.link_all.new.cells) c.len-n.result (whole d) (some d) (most d) (next d) }
+    record { len = c.link_all.ensures.len; empty = fresh_empty (vec_items c.link_all.new.cells) c.len-n.result (whole d) (some d) (next d) }

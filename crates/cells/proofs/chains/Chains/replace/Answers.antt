@@ -1,8 +1,9 @@
 -- The run goes, and the ranges that there are come in its place; refused before anything is changed.
-use Rattle.std.proofs.Common.{refl, arith}
+use Rattle.std.proofs.Common.{refl, ap, arith}
+use Rattle.std.specs.Int.{from_bool}
 use Rattle.cells.specs.Places.{one_or_none}
 use Rattle.cells.specs.Held.{both_fit}
-use Rattle.cells.proofs.Replaces.{replaced, longer}
+use Rattle.cells.proofs.Replaces.{replaced, longer, counted}
 use Rattle.cells.proofs.chains.Chains.replace.Goals as goal
 
 pub overflow_add-free : goal.overflow_add-free
@@ -12,7 +13,7 @@ pub returns-then-free-run : goal.returns-then-free-run
 returns-then-free-run c =
     let r = c.args.run in
     let n = longer c.args.self.now c.args.chain.number r.gap.place r.number (one_or_none c.args.lower) (one_or_none c.args.upper) c.args.chain.small c.requires.follow.inside in
-    (refl, refl, omega (arith, n, c.free.ensures, c.how_many.ensures, c.how_many-2.ensures, c.if-free-run.true))
+    (refl, refl, omega (arith, n, c.free.ensures, c.from.ensures, c.from-2.ensures, ap from_bool c.is_some.ensures, ap from_bool c.is_some-2.ensures, counted c.args.lower, counted c.args.upper, c.if-free-run.true))
 
 pub returns : goal.returns
 returns c =
