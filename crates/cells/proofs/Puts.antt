@@ -5,8 +5,9 @@ use Rattle.store.specs.Ranges.{Span, Canonical, apart, with_range, without_range
 use Rattle.store.specs.declared.refusal.StoreRefusal.{StoreRefusal}
 use Rattle.cells.specs.declared.cell.Cell.{Cell}
 use Rattle.cells.specs.declared.chains.Chains.{Chains}
+use Rattle.cells.specs.declared.chains.Run.{Run}
 use Rattle.cells.specs.Links.{cell, ends}
-use Rattle.cells.specs.Chains.{numbers_of, count_of, ranges_of, Follow, Changed, ChangedIfItFits}
+use Rattle.cells.specs.Chains.{count_of, ranges_of, Follow, Changed, ChangedIfItFits}
 use Rattle.cells.specs.Places.{at_place, EndingBelow, BeginningWithin}
 use Rattle.cells.specs.Held.{ranges_many, place_fits, end_fits, last_fits, read, unchanged}
 use Rattle.cells.proofs.Steps.{last_at, range_at}
@@ -26,22 +27,28 @@ module _ (x y : Chains) (k : ℕ) (h : k < 11) (f : Canonical (ranges_of x k)) (
       subst (Changed x y k) (sym (new ∙ ap (λ z. take (length rs - 1) rs ++ ((at_place rs (length rs - 1)).0, z) ∷ []) (sym ends_at) ∙ ap (λ n. take (n - 1) rs ++ ((at_place rs (n - 1)).0, top) ∷ []) many)) made
 
 -- the run of ranges that are met
-module _ (x : Chains) (k : ℕ) (h : k < 11) (place number first last : ℕ) (at : 0 < number → get_or (numbers_of x k) place 0 ≡ first) (follow : Follow x k place number last) where
-  pub first_cell : 0 < number → first < vec_len x.cells
-  first_cell p = place_fits x k (omega arith) place first (omega (arith, follow.inside)) (at p)
+module _ (x : Chains) (k : ℕ) (h : k < 11) (run : Run) (follow : Follow x k run) where
+  abbrev place : ℕ
+  place = run.gap.place
 
-  pub last_cell : 0 < number → last < vec_len x.cells
-  last_cell p = end_fits x k place number last h p follow
+  abbrev number : ℕ
+  number = run.ends.count
 
-  first_range : 0 < number → (at_place (ranges_of x k) place).0 ≡ (cell (vec_items x.cells) first).low
-  first_range p = ap (λ s. s.0) (range_at x k h place first _ (omega (arith, follow.inside)) (at p) refl)
+  pub first_cell : 0 < number → run.ends.first < vec_len x.cells
+  first_cell p = place_fits x k (omega arith) place run.ends.first (omega (arith, follow.inside)) (follow.begins p)
 
-  last_range : 0 < number → (at_place (ranges_of x k) (place + number - 1)).1 ≡ (cell (vec_items x.cells) last).high
-  last_range p = ap (λ s. s.1) (range_at x k h (place + number - 1) last _ (omega (arith, follow.inside)) (follow.ends_in p) refl)
+  pub last_cell : 0 < number → run.ends.last < vec_len x.cells
+  last_cell p = end_fits x k run h p follow
+
+  first_range : 0 < number → (at_place (ranges_of x k) place).0 ≡ (cell (vec_items x.cells) run.ends.first).low
+  first_range p = ap (λ s. s.0) (range_at x k h place run.ends.first _ (omega (arith, follow.inside)) (follow.begins p) refl)
+
+  last_range : 0 < number → (at_place (ranges_of x k) (place + number - 1)).1 ≡ (cell (vec_items x.cells) run.ends.last).high
+  last_range p = ap (λ s. s.1) (range_at x k h (place + number - 1) run.ends.last _ (omega (arith, follow.inside)) (follow.ends_in p) refl)
 
   module _ (y : Chains) (f : Canonical (ranges_of x k)) (lo hi : ℕ) (law : Lawful lo hi) (r : Result (Unit {0}) StoreRefusal) where
     pub put_changes : (lo' hi' : ℕ) (new : Span) → ((id : ℕ) → ltb id lo' ≡ apart id lo) → ((id : ℕ) → ltb hi' id ≡ apart hi id) → EndingBelow (ranges_of x k) lo' place → BeginningWithin (ranges_of x k) hi' place number
-        → (number ≡ 0 → new ≡ (lo, hi)) → (0 < number → new ≡ (min lo (cell (vec_items x.cells) first).low, max hi (cell (vec_items x.cells) last).high))
+        → (number ≡ 0 → new ≡ (lo, hi)) → (0 < number → new ≡ (min lo (cell (vec_items x.cells) run.ends.first).low, max hi (cell (vec_items x.cells) run.ends.last).high))
         → ChangedIfItFits x y k (take place (ranges_of x k) ++ new ∷ drop (place + number) (ranges_of x k)) r → ChangedIfItFits x y k (with_range lo hi (ranges_of x k)) r
     put_changes lo' hi' new a b ending beginning alone whole made =
         subst (λ l. ChangedIfItFits x y k l r)
@@ -50,8 +57,8 @@ module _ (x : Chains) (k : ℕ) (h : k < 11) (place number first last : ℕ) (at
         made
 
     pub take_changes : (lower upper : List Span) → 0 < number → EndingBelow (ranges_of x k) lo place → BeginningWithin (ranges_of x k) hi place number
-        → lower ≡ cond (ltb (cell (vec_items x.cells) first).low lo) (((cell (vec_items x.cells) first).low, lo - 1) ∷ []) []
-        → upper ≡ cond (ltb hi (cell (vec_items x.cells) last).high) ((hi + 1, (cell (vec_items x.cells) last).high) ∷ []) []
+        → lower ≡ cond (ltb (cell (vec_items x.cells) run.ends.first).low lo) (((cell (vec_items x.cells) run.ends.first).low, lo - 1) ∷ []) []
+        → upper ≡ cond (ltb hi (cell (vec_items x.cells) run.ends.last).high) ((hi + 1, (cell (vec_items x.cells) run.ends.last).high) ∷ []) []
         → ChangedIfItFits x y k (take place (ranges_of x k) ++ (lower ++ (upper ++ drop (place + number) (ranges_of x k)))) r → ChangedIfItFits x y k (without_range lo hi (ranges_of x k)) r
     take_changes lower upper p ending beginning a b made =
         subst (λ l. ChangedIfItFits x y k l r)

@@ -1,7 +1,7 @@
 -- A run of cells of a chain handed to the free chain, and the cell before it written.
 use Rattle.std.proofs.Common.{◌≡◌, ℕ, ◌+◌, ◌-◌, ◌<◌, ◌≤◌, false, cond, eqb, ◌⊎◌, List, [], ◌∷◌, ◌++◌, length, get_or, take, drop, set, sym, refl, ap, ◌∙◌, subst, inl, inr, ⊎_elim, append_assoc, arith, length-append, length-drop, length-set}
 use Rattle.std.proofs.lemmas.Bool.{cases_eq, eqb-false, cond_both}
-use Rattle.std.proofs.lemmas.List.{length-take-le, get_or-set_other, get_or-drop, drop-drop}
+use Rattle.std.proofs.lemmas.List.{length-take-le, get_or-drop, drop-drop}
 use Rattle.cells.specs.declared.cell.Cell.{Cell}
 use Rattle.cells.specs.declared.cell.Ends.{Ends}
 use Rattle.cells.specs.Links.{cell, ends, final, numbers, Linked, spans}
@@ -94,9 +94,13 @@ module _ (cs : List Cell) (es : List Ends) (s n p q : ℕ) (a m b : List ℕ) (w
       some : eqb (ends es 11).count 0 ≡ false → 0 < (ends es 11).count
       some e = ⊎_elim (λ (z : (ends es 11).count ≡ 0). absurd (eqb-false _ _ e z)) (λ z. omega arith) (cases_eq (ends es 11).count 0)
 
+-- the free chain with so many cells more before it, from m to p
+abbrev pub longer : Ends → ℕ → ℕ → ℕ → Ends
+longer e n p m = record { first = m; last = cond (eqb e.count 0) p e.last; count = e.count + n }
+
 -- by places, with the values as the code has them
-abbrev pub After : List Cell → List Ends → ℕ → ℕ → ℕ → ℕ → ℕ → Cell → Cell → ℕ → ℕ → Type 0
-After cs es s i n q p cq cp t u = Made cs (set (set cs q (record { low = cq.low; high = cq.high; next = cp.next })) p (record { low = cp.low; high = cp.high; next = (ends es 11).first })) es (set (set es s (record { first = (ends es s).first; last = t; count = (ends es s).count - n })) 11 (record { first = cq.next; last = u; count = (ends es 11).count + n })) s (take i (numbers cs es s) ++ drop (i + n) (numbers cs es s)) (take i (spans cs (numbers cs es s)) ++ drop (i + n) (spans cs (numbers cs es s))) ((ends es 11).count + n)
+abbrev pub After : List Cell → List Ends → ℕ → ℕ → ℕ → ℕ → List Cell → Ends → Cell → Ends → Type 0
+After cs es s i n p ds d c y = Made cs (set ds p (record { low = c.low; high = c.high; next = (ends es 11).first })) es (set (set es s d) 11 y) s (take i (numbers cs es s) ++ drop (i + n) (numbers cs es s)) (take i (spans cs (numbers cs es s)) ++ drop (i + n) (spans cs (numbers cs es s))) ((ends es 11).count + n)
 
 module _ (cs : List Cell) (es : List Ends) (s i n q p : ℕ) (g : Linked cs es) (long : length es ≡ 12) (h : s < 11) (pos : 0 < i) (some : 0 < n) (l : i + n ≤ (ends es s).count) (atq : get_or (numbers cs es s) (i - 1) 0 ≡ q) (atp : get_or (numbers cs es s) (i + n - 1) 0 ≡ p) where
   many : length (numbers cs es s) ≡ (ends es s).count
@@ -123,24 +127,17 @@ module _ (cs : List Cell) (es : List Ends) (s i n q p : ℕ) (g : Linked cs es) 
   is : numbers cs es s ≡ a ++ q ∷ (m ++ p ∷ b)
   is = parts_before (numbers cs es s) i q pos (omega (arith, many)) atq ∙ ap (λ z. a ++ q ∷ z) rest_is
 
-  base : After cs es s i n q p (cell cs q) (cell cs p) (cond (eqb (ends es s).last p) q (ends es s).last) (cond (eqb (ends es 11).count 0) p (ends es 11).last)
-  base =
+  pub removed : (let ds = set cs q (record { low = (cell cs q).low; high = (cell cs q).high; next = (cell cs p).next }) in After cs es s i n p ds (record { first = (ends es s).first; last = cond (eqb (ends es s).last p) q (ends es s).last; count = (ends es s).count - n }) (cell ds p) (longer (ends es 11) n p (cell cs q).next))
+  removed =
       let w : Cell = record { low = (cell cs q).low; high = (cell cs q).high; next = (cell cs p).next } in
-      let v : Cell = record { low = (cell cs p).low; high = (cell cs p).high; next = (ends es 11).first } in
-      let c = chain_at cs es s g (omega arith) in
-      let whole = is ∙ sym (append_assoc a (q ∷ m) (p ∷ b)) in
-      let op = once cs (ends es s).first c.stop p (a ++ q ∷ m) b (subst (λ l. Seg cs (ends es s).first l c.stop) whole c.seg) c.over in
-      let apart : p ≡ q → ⊥ = λ e. (out_right p a (q ∷ m) op.0).0 (sym e) in
-      let keep : (l : List ℕ) → spans (set (set cs q w) p v) l ≡ spans cs l = λ l. spans_keep (set cs q w) p v l (ap (λ z. z.low) (sym (get_or-set_other cs q p w _ apart))) (ap (λ z. z.high) (sym (get_or-set_other cs q p w _ apart))) ∙ spans_keep cs q w l refl refl in
+      let v : Cell = record { low = (cell (set cs q w) p).low; high = (cell (set cs q w) p).high; next = (ends es 11).first } in
+      let x : Ends = record { first = (ends es s).first; last = cond (eqb (ends es s).last p) q (ends es s).last; count = (ends es s).count - n } in
+      let y = longer (ends es 11) n p (cell cs q).next in
+      let new = take i (spans cs (numbers cs es s)) ++ drop (i + n) (spans cs (numbers cs es s)) in
+      let keep : (l : List ℕ) → spans (set (set cs q w) p v) l ≡ spans cs l = λ l. spans_keep (set cs q w) p v l refl refl ∙ spans_keep cs q w l refl refl in
       let there : a ++ q ∷ b ≡ take i (numbers cs es s) ++ b = take_before (numbers cs es s) i q b pos (omega (arith, many)) atq in
-      subst (λ l. Made cs (set (set cs q w) p v) es (set (set es s (record { first = (ends es s).first; last = cond (eqb (ends es s).last p) q (ends es s).last; count = (ends es s).count - n })) 11 (record { first = (cell cs q).next; last = cond (eqb (ends es 11).count 0) p (ends es 11).last; count = (ends es 11).count + n })) s l (take i (spans cs (numbers cs es s)) ++ drop (i + n) (spans cs (numbers cs es s))) ((ends es 11).count + n)) there
-      (make cs (set (set cs q w) p v) es s _ _ (a ++ q ∷ b) _ (take i (spans cs (numbers cs es s)) ++ drop (i + n) (spans cs (numbers cs es s))) g h
+      subst (λ l. Made cs (set (set cs q w) p v) es (set (set es s x) 11 y) s l new ((ends es 11).count + n)) there
+      (make cs (set (set cs q w) p v) es s _ _ (a ++ q ∷ b) _ new g h
       (fold cs es s n p q a m b w v g long h is (omega (arith, length-take-le (n - 1) rest (omega (arith, length-drop i (numbers cs es s), many)))) refl refl)
       (keep (a ++ q ∷ b) ∙ ap (spans cs) there ∙ spans-++ cs (take i (numbers cs es s)) b ∙ ap (λ z. z ++ spans cs b) (spans-take cs i (numbers cs es s)) ∙ ap (λ z. take i (spans cs (numbers cs es s)) ++ z) (spans-drop cs (i + n) (numbers cs es s)))
       (λ k hk ne. keep (numbers cs es k)))
-
-  pub removed : (cq cp : Cell) (t u : ℕ) → cell cs q ≡ cq → cell cs p ≡ cp → cond (eqb (ends es s).last p) q (ends es s).last ≡ t → cond (eqb (ends es 11).count 0) p (ends es 11).last ≡ u → After cs es s i n q p cq cp t u
-  removed cq cp t u e f d k =
-      subst (λ z. After cs es s i n q p cq cp t z) k (subst (λ z. After cs es s i n q p cq cp z (cond (eqb (ends es 11).count 0) p (ends es 11).last)) d
-      (subst (λ z. After cs es s i n q p cq z (cond (eqb (ends es s).last p) q (ends es s).last) (cond (eqb (ends es 11).count 0) p (ends es 11).last)) f
-      (subst (λ z. After cs es s i n q p z (cell cs p) (cond (eqb (ends es s).last p) q (ends es s).last) (cond (eqb (ends es 11).count 0) p (ends es 11).last)) e base)))

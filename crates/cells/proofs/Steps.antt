@@ -1,10 +1,10 @@
 -- Steps along a chain, and the ranges of its cells by their places.
-use Rattle.std.proofs.Common.{◌≡◌, ℕ, zero, suc, ◌+◌, ◌-◌, ◌<◌, List, [], ◌∷◌, ◌++◌, length, get_or, take, drop, vec_items, vec_len, sym, refl, ap, ◌∙◌, subst, arith}
+use Rattle.std.proofs.Common.{◌≡◌, ℕ, zero, suc, ◌+◌, ◌-◌, ◌<◌, List, [], ◌∷◌, ◌++◌, length, get_or, take, drop, Some, None, vec_items, vec_len, sym, refl, ap, ◌∙◌, subst, arith}
 use Rattle.std.proofs.lemmas.List.{get_or_read, drop_more, drop_all}
 use Rattle.cells.specs.declared.cell.Cell.{Cell}
 use Rattle.cells.specs.declared.chains.Chains.{Chains}
 use Rattle.cells.specs.Links.{cell, ends, path, final, span, spans}
-use Rattle.cells.specs.Chains.{numbers_of, count_of, ranges_of, Stands, GoesOn, Changed}
+use Rattle.cells.specs.Chains.{numbers_of, count_of, ranges_of, cell_at, before_place, Stands, GoesOn, Changed}
 use Rattle.cells.specs.Places.{at_place}
 use Rattle.cells.specs.Relinks.{Made}
 use Rattle.cells.specs.Held.{long, many, ranges_many, place_fits, changed}
@@ -19,11 +19,23 @@ spans_place cs [] i h = absurd (omega arith)
 spans_place cs (x ∷ l) zero h = refl
 spans_place cs (x ∷ l) (suc i) h = spans_place cs l i (omega arith)
 
+-- the last of one number more
+before_next : (l : List ℕ) (i : ℕ) → before_place l (i + 1) ≡ Some (get_or l i 0)
+before_next l i = (let e : i + 1 ≡ suc i = omega arith in ap (before_place l) e)
+
 module _ (x : Chains) (k : ℕ) (h : k < 11) where
   -- the last cell
   pub last_at : 0 < count_of x k → get_or (numbers_of x k) (count_of x k - 1) 0 ≡ (ends x.ends k).last
   last_at p =
       ap (λ n. get_or (numbers_of x k) (n - 1) 0) (sym (many x k (omega arith))) ∙ final_place 0 (numbers_of x k) (omega (arith, many x k (omega arith))) ∙ x.ending k (omega arith) p
+
+  -- the first cell
+  pub first_at : 0 < count_of x k → get_or (numbers_of x k) 0 0 ≡ (ends x.ends k).first
+  first_at p = go (count_of x k) p
+    where
+      go : (n : ℕ) → 0 < n → get_or (path (vec_items x.cells) n (ends x.ends k).first) 0 0 ≡ (ends x.ends k).first
+      go zero h = absurd (omega arith)
+      go (suc n) h = refl
 
   -- the range at a place is that of the cell there
   pub range_at : (i p : ℕ) (c : Cell) → i < count_of x k → get_or (numbers_of x k) i 0 ≡ p → cell (vec_items x.cells) p ≡ c → at_place (ranges_of x k) i ≡ (c.low, c.high)
@@ -72,8 +84,11 @@ module _ (x : Chains) (k : ℕ) (h : k < 11) where
       pub range_is : at_place (ranges_of x k) i ≡ (c.low, c.high)
       range_is = range_at x k h i at c l at_is read_at
 
-      pub stand_behind : Stands x k (i + 1) at
-      stand_behind = record { inside = omega arith; behind = λ _. (let e : i + 1 - 1 ≡ i = omega arith in ap (λ n. get_or (numbers_of x k) n 0) e) ∙ at_is }
+      pub cell_is : cell_at x k i ≡ c
+      cell_is = ap (cell (vec_items x.cells)) at_is ∙ read_at
+
+      pub stand_behind : Stands x k (record { place = i + 1; before = Some at })
+      stand_behind = record { inside = omega arith; behind = ap Some (sym at_is) ∙ sym (before_next (numbers_of x k) i) }
 
   -- the gap behind the last cell
   pub at_last : 0 < count_of x k → (c : Cell) → c ≡ get_or (vec_items x.cells) (ends x.ends k).last c → GoesOn x k (count_of x k) c.next
@@ -81,5 +96,11 @@ module _ (x : Chains) (k : ℕ) (h : k < 11) where
       let z : count_of x k - count_of x k ≡ 0 = omega arith in
       record { inside = omega arith; rest = drop_all (count_of x k) (numbers_of x k) (omega (arith, many x k (omega arith))) ∙ ap (λ n. path (vec_items x.cells) n c.next) (sym z) }
 
-  pub behind_last : 0 < count_of x k → Stands x k (count_of x k) (ends x.ends k).last
-  behind_last p = record { inside = omega arith; behind = λ _. last_at x k h p }
+  pub behind_last : 0 < count_of x k → Stands x k (record { place = count_of x k; before = Some (ends x.ends k).last })
+  behind_last p =
+      let e : count_of x k - 1 + 1 ≡ count_of x k = omega arith in
+      record { inside = omega arith; behind = ap Some (sym (last_at x k h p)) ∙ sym (before_next (numbers_of x k) (count_of x k - 1)) ∙ ap (before_place (numbers_of x k)) e }
+
+-- no cell is before the front
+pub stand_front : (x : Chains) (k : ℕ) → Stands x k (record { place = 0; before = None })
+stand_front x k = record { inside = omega arith; behind = refl }

@@ -1,44 +1,35 @@
 -- Walks along a chain: which ranges are passed.
-use Rattle.std.proofs.Common.{◌≡◌, ℕ, ◌+◌, ◌-◌, ◌<◌, ◌≤◌, get_or, vec_items, sym, ap, ◌∙◌, subst, ⊎_elim, arith}
+use Rattle.std.proofs.Common.{◌≡◌, ℕ, ◌+◌, ◌-◌, ◌<◌, ◌≤◌, zero, suc, get_or, vec_items, sym, refl, ap, ◌∙◌, subst, ⊎_elim, arith}
+use Rattle.std.specs.Option.{unwrap_or}
 use Rattle.std.proofs.lemmas.Bool.{cases_eq}
 use Rattle.store.specs.Ranges.{Canonical}
 use Rattle.cells.specs.declared.cell.Cell.{Cell}
 use Rattle.cells.specs.declared.chains.Chains.{Chains}
+use Rattle.cells.specs.declared.chains.Gap.{Gap}
 use Rattle.cells.specs.Links.{ends}
-use Rattle.cells.specs.Chains.{numbers_of, count_of, ranges_of, Stands, Follow, GoesOn}
+use Rattle.cells.specs.Chains.{numbers_of, count_of, ranges_of, cell_at, before_place, Stands, Follow, GoesOn}
 use Rattle.cells.specs.Places.{at_place, EndingBelow, BeginningWithin}
 use Rattle.cells.specs.Held.{ranges_many, last_fits, read}
 use Rattle.cells.specs.Finds.{all_below_last}
-use Rattle.cells.proofs.Steps.{last_at, range_at, at_is, at_start, step, range_is, stand_behind}
+use Rattle.cells.proofs.Steps.{last_at, range_at, at_is}
 
--- the ranges before the place i end below n
-abbrev pub Passed : Chains → ℕ → ℕ → ℕ → Type 0
-Passed x k n i = (j : ℕ) → j < i → (at_place (ranges_of x k) j).1 < n
-
--- the ranges from the place i on, so many, begin at high or below
-abbrev pub Met : Chains → ℕ → ℕ → ℕ → ℕ → Type 0
-Met x k high i m = (j : ℕ) → i ≤ j → j < i + m → (at_place (ranges_of x k) j).0 ≤ high
+-- one cell more
+pub one_more : (P : Cell → Type 0) (x : Chains) (k from i : ℕ) → ((j : ℕ) → from ≤ j → j < i → P (cell_at x k j)) → P (cell_at x k i) → (j : ℕ) → from ≤ j → j < i + 1 → P (cell_at x k j)
+one_more P x k from i passed here j a b = ⊎_elim (λ (e : j ≡ i). subst (λ n. P (cell_at x k n)) (sym e) here) (λ ne. passed j a (omega arith)) (cases_eq j i)
 
 module _ (x : Chains) (k : ℕ) (h : k < 11) where
-  pub begun : (n : ℕ) → GoesOn x k 0 (ends x.ends k).first × Stands x k 0 (ends x.ends k).first × Passed x k n 0
-  begun n = (at_start x k h, record { inside = omega arith; behind = λ p. absurd (omega arith) }, λ j l. absurd (omega arith))
+  cell_range : (i : ℕ) → i < count_of x k → at_place (ranges_of x k) i ≡ ((cell_at x k i).low, (cell_at x k i).high)
+  cell_range i l = range_at x k h i _ _ l refl refl
 
-  module _ (n i : ℕ) (p : Passed x k n i) where
-    pub at_end : i ≤ count_of x k → count_of x k ≤ i → EndingBelow (ranges_of x k) n i
-    at_end a b = record { inside = omega (arith, ranges_many x k (omega arith)); passed = p; stops = λ l. absurd (omega (arith, ranges_many x k (omega arith))) }
-
-    module _ (at : ℕ) (w : GoesOn x k i at) (l : i < count_of x k) (c : Cell) (r : c ≡ get_or (vec_items x.cells) at c) where
-      pub passed : c.high < n → GoesOn x k (i + 1) c.next × Stands x k (i + 1) at × Passed x k n (i + 1)
-      passed b = (
-        step x k h i at w l c r,
-        stand_behind x k h i at w l c r,
-        λ j m. ⊎_elim
-            (λ (e : j ≡ i). subst (λ t. (at_place (ranges_of x k) t).1 < n) (sym e) (subst (λ s. s.1 < n) (sym (range_is x k h i at w l c r)) b))
-            (λ ne. p j (omega arith)) (cases_eq j i),
-      )
-
-      pub stopped : n ≤ c.high → EndingBelow (ranges_of x k) n i
-      stopped b = record { inside = omega (arith, ranges_many x k (omega arith)); passed = p; stops = λ _. subst (λ s. n ≤ s.1) (sym (range_is x k h i at w l c r)) b }
+  -- a walk from the front past what ends below n
+  pub ending_below : (n i : ℕ) → i ≤ count_of x k → ((j : ℕ) → 0 ≤ j → j < i → (cell_at x k j).high < n) → (i < count_of x k → n ≤ (cell_at x k i).high) → EndingBelow (ranges_of x k) n i
+  ending_below n i l passed stops =
+      let many = ranges_many x k (omega arith) in
+      record {
+        inside = omega (arith, many);
+        passed = λ j m. subst (λ s. s.1 < n) (sym (cell_range j (omega arith))) (passed j (omega arith) m);
+        stops = λ m. subst (λ s. n ≤ s.1) (sym (cell_range i (omega (arith, many)))) (stops (omega (arith, many)));
+      }
 
   -- where the last range ends below n, all do
   pub all_passed : 0 < count_of x k → (c : Cell) → c ≡ get_or (vec_items x.cells) (ends x.ends k).last c → (n : ℕ) → Canonical (ranges_of x k) → c.high < n → EndingBelow (ranges_of x k) n (count_of x k)
@@ -48,26 +39,27 @@ module _ (x : Chains) (k : ℕ) (h : k < 11) where
       subst (EndingBelow (ranges_of x k) n) many
       (all_below_last (ranges_of x k) n f (omega (arith, many)) (subst (λ m. (at_place (ranges_of x k) (m - 1)).1 < n) (sym many) (subst (λ s. s.1 < n) (sym is) b)))
 
-  pub none_met : (high i at : ℕ) → GoesOn x k i at → GoesOn x k (i + 0) at × Follow x k i 0 at × Met x k high i 0
-  none_met high i at w =
-      let z : i ≡ i + 0 = omega arith in
-      (subst (λ t. GoesOn x k t at) z w, record { inside = omega (arith, w.inside); ends_in = λ p. absurd (omega arith) }, λ j a b. absurd (omega arith))
+  -- a walk on past what begins at high or below
+  pub beginning_within : (high i j : ℕ) → i ≤ j → j ≤ count_of x k → ((m : ℕ) → i ≤ m → m < j → (cell_at x k m).low ≤ high) → (j < count_of x k → high < (cell_at x k j).low) → BeginningWithin (ranges_of x k) high i (j - i)
+  beginning_within high i j a b passed stops =
+      let many = ranges_many x k (omega arith) in
+      let e : i + (j - i) ≡ j = omega arith in
+      record {
+        inside = omega (arith, many);
+        met = λ m p q. subst (λ s. s.0 ≤ high) (sym (cell_range m (omega arith))) (passed m p (omega arith));
+        stops = λ p. subst (λ n. high < (at_place (ranges_of x k) n).0) (sym e) (subst (λ s. high < s.0) (sym (cell_range j (omega (arith, many)))) (stops (omega (arith, many))));
+      }
 
-  module _ (high i m : ℕ) (p : Met x k high i m) where
-    pub met_end : i + m ≤ count_of x k → count_of x k ≤ i + m → BeginningWithin (ranges_of x k) high i m
-    met_end a b = record { inside = omega (arith, ranges_many x k (omega arith)); met = p; stops = λ l. absurd (omega (arith, ranges_many x k (omega arith))) }
-
-    module _ (at : ℕ) (w : GoesOn x k (i + m) at) (l : i + m < count_of x k) (c : Cell) (r : c ≡ get_or (vec_items x.cells) at c) where
-      pub met_more : c.low ≤ high → GoesOn x k (i + (m + 1)) c.next × Follow x k i (m + 1) at × Met x k high i (m + 1)
-      met_more b =
-          let z : i + m + 1 ≡ i + (m + 1) = omega arith in
-          let y : i + (m + 1) - 1 ≡ i + m = omega arith in (
-            subst (λ t. GoesOn x k t c.next) z (step x k h (i + m) at w l c r),
-            record { inside = omega arith; ends_in = λ _. ap (λ t. get_or (numbers_of x k) t 0) y ∙ at_is x k h (i + m) at w l },
-            λ j a q. ⊎_elim
-                (λ (e : j ≡ i + m). subst (λ t. (at_place (ranges_of x k) t).0 ≤ high) (sym e) (subst (λ s. s.0 ≤ high) (sym (range_is x k h (i + m) at w l c r)) b))
-                (λ ne. p j a (omega arith)) (cases_eq j (i + m)),
-          )
-
-      pub met_stop : high < c.low → BeginningWithin (ranges_of x k) high i m
-      met_stop b = record { inside = omega (arith, ranges_many x k (omega arith)); met = p; stops = λ _. subst (λ s. high < s.0) (sym (range_is x k h (i + m) at w l c r)) b }
+  -- the run between two gaps
+  pub between : (from to : Gap) (at last : ℕ) → Stands x k from → GoesOn x k from.place at → Stands x k to → from.place ≤ to.place → last ≡ unwrap_or to.before at → Follow x k (record { gap = from; ends = record { first = at; last = last; count = to.place - from.place } })
+  between from to at last s w t l e = record {
+    inside = omega (arith, t.inside);
+    begins = λ p. at_is x k h from.place at w (omega (arith, t.inside));
+    ends_in = λ p. go to.place t.behind (omega arith) (omega arith);
+  }
+    where
+      go : (n : ℕ) → to.before ≡ before_place (numbers_of x k) n → n ≡ from.place + (to.place - from.place) → 0 < n → get_or (numbers_of x k) (from.place + (to.place - from.place) - 1) 0 ≡ last
+      go zero b m p = absurd (omega arith)
+      go (suc j) b m p =
+          let z : from.place + (to.place - from.place) - 1 ≡ j = omega arith in
+          ap (λ n. get_or (numbers_of x k) n 0) z ∙ sym (e ∙ ap (λ o. unwrap_or o at) b)

@@ -1,10 +1,13 @@
 -- What the chains hold, where a gap stands in one of them, and what a change of one leaves.
-use Rattle.std.specs.Prelude.{◌≡◌, ℕ, ◌+◌, ◌-◌, ◌<◌, ◌≤◌, List, length, drop, vec_items, vec_len, Result, MatchResult, ◌≢◌, slice_index}
+use Rattle.std.specs.Prelude.{◌≡◌, ℕ, zero, suc, ◌+◌, ◌-◌, ◌<◌, ◌≤◌, List, length, drop, Some, None, Option, vec_items, vec_len, Result, MatchResult, ◌≢◌, slice_index}
 use Rattle.store.specs.Ranges.{Span}
 use Rattle.store.specs.Refusals.{listed, store_full}
 use Rattle.store.specs.declared.refusal.StoreRefusal.{StoreRefusal}
-use Rattle.cells.specs.Links.{ends, path, numbers, spans}
+use Rattle.cells.specs.Links.{cell, ends, path, numbers, spans}
+use Rattle.cells.specs.declared.cell.Cell.{Cell}
 use Rattle.cells.specs.declared.chains.Chains.{Chains}
+use Rattle.cells.specs.declared.chains.Gap.{Gap}
+use Rattle.cells.specs.declared.chains.Run.{Run}
 
 -- the cells of a chain, how many they are, their ranges, and how many cells are free
 abbrev pub numbers_of : Chains → ℕ → List ℕ
@@ -19,15 +22,25 @@ ranges_of x k = spans (vec_items x.cells) (numbers_of x k)
 abbrev pub free_of : Chains → ℕ
 free_of x = count_of x 11
 
--- the gap behind so many cells of a chain, of which `before` is the last
-pub record Stands (x : Chains) (k place before : ℕ) : Type 0 where
-  pub inside : place ≤ count_of x k
-  pub behind : 0 < place → slice_index (numbers_of x k) (place - 1) ≡ before
+-- the cell at a place of a chain
+abbrev pub cell_at : Chains → ℕ → ℕ → Cell
+cell_at x k i = cell (vec_items x.cells) (slice_index (numbers_of x k) i)
 
--- so many cells behind that gap, of which `last` is the last
-pub record Follow (x : Chains) (k place number last : ℕ) : Type 0 where
-  pub inside : place + number ≤ count_of x k
-  pub ends_in : 0 < number → slice_index (numbers_of x k) (place + number - 1) ≡ last
+-- the last of so many numbers
+abbrev pub before_place : List ℕ → ℕ → Option ℕ
+before_place l zero = None
+before_place l (suc i) = Some (slice_index l i)
+
+-- the gap is one of the chain: it names the cell before it
+pub record Stands (x : Chains) (k : ℕ) (gap : Gap) : Type 0 where
+  pub inside : gap.place ≤ count_of x k
+  pub behind : gap.before ≡ before_place (numbers_of x k) gap.place
+
+-- the run's cells are those behind its gap
+pub record Follow (x : Chains) (k : ℕ) (run : Run) : Type 0 where
+  pub inside : run.gap.place + run.ends.count ≤ count_of x k
+  pub begins : 0 < run.ends.count → slice_index (numbers_of x k) run.gap.place ≡ run.ends.first
+  pub ends_in : 0 < run.ends.count → slice_index (numbers_of x k) (run.gap.place + run.ends.count - 1) ≡ run.ends.last
 
 -- what stands behind a gap: from `at` on goes the rest of the chain
 pub record GoesOn (x : Chains) (k place at : ℕ) : Type 0 where

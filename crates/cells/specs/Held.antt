@@ -1,12 +1,14 @@
 -- What the chains of a memory are, from the facts in their type.
-use Rattle.std.specs.Prelude.{◌≡◌, ℕ, ◌+◌, ◌-◌, ◌<◌, ◌≤◌, List, ◌++◌, length, take, vec_items, vec_len, slice_index, slice_index_or, refl}
-use Rattle.std.proofs.Common.{sym, ap, ◌∙◌, arith, length-append}
+use Rattle.std.specs.Prelude.{◌≡◌, ℕ, zero, suc, ◌+◌, ◌-◌, ◌<◌, ◌≤◌, List, ◌++◌, length, take, Some, IfSome, vec_items, vec_len, slice_index, slice_index_or, refl}
+use Rattle.std.proofs.Common.{sym, ap, subst, ◌∙◌, arith, length-append}
 use Rattle.std.proofs.lemmas.List.{get_or_read, get_or_append_left, get_or-take, length-take-le}
 use Rattle.store.specs.Ranges.{Span}
 use Rattle.cells.specs.declared.cell.Cell.{Cell}
 use Rattle.cells.specs.declared.chains.Chains.{Chains}
+use Rattle.cells.specs.declared.chains.Gap.{Gap}
+use Rattle.cells.specs.declared.chains.Run.{Run}
 use Rattle.cells.specs.Links.{cell, ends, Linked}
-use Rattle.cells.specs.Chains.{numbers_of, count_of, ranges_of, free_of, Stands, Follow, Changed}
+use Rattle.cells.specs.Chains.{numbers_of, count_of, ranges_of, free_of, before_place, Stands, Follow, Changed}
 use Rattle.cells.specs.Segs.{chain_at, spans-length}
 use Rattle.cells.specs.Relinks.{Made, inside, first_inside, last_inside, sum_one, sum_two}
 
@@ -43,25 +45,36 @@ both_fit x k h = omega (arith, sum_two x.ends k 11 (omega (arith, x.twelve)) (om
 pub read : (x : Chains) (p : ℕ) (c : Cell) → p < vec_len x.cells → c ≡ slice_index_or (vec_items x.cells) p c → cell (vec_items x.cells) p ≡ c
 read x p c h e = sym (get_or_read (vec_items x.cells) p c (omega (arith, long x)) e _)
 
--- the cell before a gap, and the last of those behind it
-pub behind_fits : (x : Chains) (k place before : ℕ) → k < 11 → 0 < place → Stands x k place before → before < vec_len x.cells
-behind_fits x k place before h p s = place_fits x k (omega arith) (place - 1) before (omega (arith, s.inside)) (s.behind p)
+-- the cell before a gap, and the last of a run
+pub before_fits : (x : Chains) (k : ℕ) (gap : Gap) → k < 11 → Stands x k gap → IfSome gap.before (λ p. p < vec_len x.cells)
+before_fits x k gap h s = subst (λ b. IfSome b (λ p. p < vec_len x.cells)) (sym s.behind) (go gap.place s.inside)
+  where
+    go : (i : ℕ) → i ≤ count_of x k → IfSome (before_place (numbers_of x k) i) (λ p. p < vec_len x.cells)
+    go zero l = tt
+    go (suc i) l = place_fits x k (omega arith) i _ (omega arith) refl
 
-pub end_fits : (x : Chains) (k place number last : ℕ) → k < 11 → 0 < number → Follow x k place number last → last < vec_len x.cells
-end_fits x k place number last h p s = place_fits x k (omega arith) (place + number - 1) last (omega (arith, s.inside)) (s.ends_in p)
+pub end_fits : (x : Chains) (k : ℕ) (run : Run) → k < 11 → 0 < run.ends.count → Follow x k run → run.ends.last < vec_len x.cells
+end_fits x k run h p s = place_fits x k (omega arith) (run.gap.place + run.ends.count - 1) run.ends.last (omega (arith, s.inside)) (s.ends_in p)
+
+-- with the same numbers up to a place
+before_in : (l rest : List ℕ) (i : ℕ) → i ≤ length l → before_place (take i l ++ rest) i ≡ before_place l i
+before_in l rest zero h = refl
+before_in l rest (suc i) h =
+    let short = length-take-le (suc i) l h in
+    ap Some (get_or_append_left (take (suc i) l) rest 0 i (omega (arith, short)) ∙ get_or-take (suc i) l i 0 (omega arith))
 
 -- what a change of the links is for the ranges, and for a gap with the same cells before it
 module _ (x y : Chains) (s : ℕ) (l : List ℕ) (new : List Span) (spare : ℕ) (m : Made (vec_items x.cells) (vec_items y.cells) x.ends y.ends s l new spare) where
   pub changed : Changed x y s new
   changed = record { room = omega (arith, m.cells, long x, long y); here = m.here; others = m.others }
 
-  pub still_stands : (place before : ℕ) (rest : List ℕ) → s < 11 → l ≡ take place (numbers_of x s) ++ rest → Stands x s place before → Stands y s place before
-  still_stands place before rest h e g =
-      let short = length-take-le place (numbers_of x s) (omega (arith, many x s (omega arith), g.inside)) in
+  pub still_stands : (gap : Gap) (rest : List ℕ) → s < 11 → l ≡ take gap.place (numbers_of x s) ++ rest → Stands x s gap → Stands y s gap
+  still_stands gap rest h e g =
+      let short = length-take-le gap.place (numbers_of x s) (omega (arith, many x s (omega arith), g.inside)) in
       let is = m.numbers_here ∙ e in
       record {
-        inside = omega (arith, many y s (omega arith), ap length is, length-append (take place (numbers_of x s)) rest, short);
-        behind = λ p. ap (λ t. slice_index t (place - 1)) is ∙ get_or_append_left (take place (numbers_of x s)) rest 0 (place - 1) (omega (arith, short)) ∙ get_or-take place (numbers_of x s) (place - 1) 0 (omega arith) ∙ g.behind p;
+        inside = omega (arith, many y s (omega arith), ap length is, length-append (take gap.place (numbers_of x s)) rest, short);
+        behind = g.behind ∙ sym (ap (λ t. before_place t gap.place) is ∙ before_in (numbers_of x s) rest gap.place (omega (arith, many x s (omega arith), g.inside)));
       }
 
 -- nothing is changed

@@ -223,6 +223,10 @@ pub last_of_rest : (f p t : ℕ) (b : List ℕ) → final p b ≡ t → Out p b 
 last_of_rest f p t [] e o = sym (cond-true _ _ _ (eq-eqb t p (sym e)))
 last_of_rest f p t (x ∷ b) e o = e ∙ sym (cond-false _ _ _ (ne_eqb t p (λ i. out_final x p (x ∷ b) (omega arith) o (e ∙ i))))
 
+pub last_of_more : (f p t : ℕ) (b : List ℕ) → final p b ≡ t → final f b ≡ cond (length b == 0) f t
+last_of_more f p t [] e = sym (cond-true (0 == 0) f t (eq-eqb 0 0 refl))
+last_of_more f p t (x ∷ b) e = e ∙ sym (cond-false (length (x ∷ b) == 0) f t (ne_eqb (length (x ∷ b)) 0 (omega arith)))
+
 pub last_of_free : {cs : List Cell} {e : Ends} {r : List ℕ} (p : ℕ) → Chain cs e r → final p r ≡ cond (e.count == 0) p e.last
 last_of_free {cs} {e} {r} p c = go r c.len c.last
   where

@@ -13,7 +13,7 @@ pub struct Cell {
     pub next: usize,
 }
 
-/// The first and the last cell of a chain, and how many it has. Without cells the last one means nothing.
+/// The first and the last of cells that are linked, and how many they are. Of none, both are numbers that no cell need have.
 #[derive(Clone, Copy)]
 pub struct Ends {
     pub(crate) first: usize,

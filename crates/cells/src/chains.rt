@@ -37,18 +37,22 @@ impl From<SetName> for Chain {
     }
 }
 
-/// The gap behind so many cells of a chain; `before` is the last of them, if there are any.
+/// The gap behind so many cells of a chain; `before` is the last of them, and there is none at the front.
 #[derive(Clone, Copy)]
 pub struct Gap {
     pub(crate) place: usize,
-    pub(crate) before: usize,
+    pub(crate) before: Option<usize>,
 }
 
-/// Cells that stand together in a chain: the gap before them, and the first, the number and the last of them. Of none there is no first and no last.
+/// The gap at the front of a chain.
+pub(crate) const FRONT: Gap = Gap {
+    place: 0,
+    before: None,
+};
+
+/// Cells that stand together in a chain, and the gap before them.
 #[derive(Clone, Copy)]
 pub struct Run {
     pub(crate) gap: Gap,
-    pub(crate) first: usize,
-    pub(crate) number: usize,
-    pub(crate) last: usize,
+    pub(crate) ends: Ends,
 }

@@ -81,18 +81,18 @@ impl Chains {
 
     // One range for the range and the cells that it meets.
     fn joined(&self, run: Run, range: Range) -> (u64, u64)
-        requires first { 0 < run.number → run.first < vec_len self.now.cells }
-        requires last { 0 < run.number → run.last < vec_len self.now.cells }
-        ensures alone { run.number ≡ 0 → result ≡ (range.low, range.high) }
-        ensures whole { 0 < run.number → result ≡ (min range.low (cell self.now.cells.items run.first).low, max range.high (cell self.now.cells.items run.last).high) }
+        requires first { 0 < run.ends.count → run.ends.first < vec_len self.now.cells }
+        requires last { 0 < run.ends.count → run.ends.last < vec_len self.now.cells }
+        ensures alone { run.ends.count ≡ 0 → result ≡ (range.low, range.high) }
+        ensures whole { 0 < run.ends.count → result ≡ (min range.low (cell self.now.cells.items run.ends.first).low, max range.high (cell self.now.cells.items run.ends.last).high) }
     {
         let low = range.low();
         let high = range.high();
-        if run.number == 0 {
+        if run.ends.count == 0 {
             return (low, high);
         }
-        let first = self.cells[run.first];
-        let last = self.cells[run.last];
+        let first = self.cells[run.ends.first];
+        let last = self.cells[run.ends.last];
         (low.min(first.low), high.max(last.high))
     }
 
@@ -105,11 +105,11 @@ impl Chains {
         let low = range.low();
         let high = range.high();
         let run = self.meeting(chain, low, high);
-        if run.number == 0 {
+        if run.ends.count == 0 {
             return Ok(());
         }
-        let first = self.cells[run.first];
-        let last = self.cells[run.last];
+        let first = self.cells[run.ends.first];
+        let last = self.cells[run.ends.last];
         let lower = part_below(first, low);
         let upper = part_above(last, high);
         self.replace(chain, run, lower, upper)
@@ -123,12 +123,12 @@ impl Chains {
         lower: Option<(u64, u64)>,
         upper: Option<(u64, u64)>,
     ) -> Result<(), StoreRefusal>
-        requires stands { Stands self.old chain.number run.gap.place run.gap.before }
-        requires follow { Follow self.old chain.number run.gap.place run.number run.last }
-        ensures { ChangedIfItFits self.old self.new chain.number (take run.gap.place (ranges_of self.old chain.number) ++ (one_or_none lower ++ (one_or_none upper ++ drop (run.gap.place + run.number) (ranges_of self.old chain.number)))) result }
+        requires stands { Stands self.old chain.number run.gap }
+        requires follow { Follow self.old chain.number run }
+        ensures { ChangedIfItFits self.old self.new chain.number (take run.gap.place (ranges_of self.old chain.number) ++ (one_or_none lower ++ (one_or_none upper ++ drop (run.gap.place + run.ends.count) (ranges_of self.old chain.number)))) result }
     {
         let wanted = usize::from(lower.is_some()) + usize::from(upper.is_some());
-        if self.free() + run.number < wanted {
+        if self.free() + run.ends.count < wanted {
             return Err(StoreRefusal::Full);
         }
         self.remove(chain, run);
@@ -139,10 +139,10 @@ impl Chains {
 
     // The range at the gap, if there is one.
     fn insert_any(&mut self, chain: Chain, gap: Gap, range: Option<(u64, u64)>)
-        requires stands { Stands self.old chain.number gap.place gap.before }
+        requires stands { Stands self.old chain.number gap }
         requires room { length (one_or_none range) ≤ free_of self.old }
         ensures changed { Changed self.old self.new chain.number (take gap.place (ranges_of self.old chain.number) ++ (one_or_none range ++ drop gap.place (ranges_of self.old chain.number))) }
-        ensures stands { Stands self.new chain.number gap.place gap.before }
+        ensures stands { Stands self.new chain.number gap }
         ensures free { free_of self.new + length (one_or_none range) ≡ free_of self.old }
     {
         if let Some((low, high)) = range {

@@ -1,19 +1,27 @@
 // Cells linked into a chain and out of it. Each change moves cells between one set's chain and the free one, or exchanges two chains.
-ghost use Rattle.std.specs.Prelude.{◌≡◌, ℕ, ◌+◌, ◌-◌, ◌<◌, [], ◌∷◌, ◌++◌, take, drop, if◌then◌else◌, vec_len};
-ghost use Rattle.cells.specs.Links.{cell};
+ghost use Rattle.std.specs.Prelude.{◌≡◌, ℕ, ◌+◌, ◌-◌, ◌<◌, IfSome, [], ◌∷◌, ◌++◌, take, drop, vec_len};
+ghost use Rattle.cells.specs.Links.{cell, link, relinked, with_link};
 ghost use Rattle.cells.specs.Chains.{ranges_of, free_of, Stands, Follow, Changed};
 
 use crate::cell::{Cell, CheckedCells, Ends};
 use crate::chains::{Chain, Chains, Gap, Run};
+use std::mem::replace;
 
 // The number of the free chain.
 const FREE: usize = 11;
 
-// `one` where the test holds, else `other`.
-fn pick(test: bool, one: usize, other: usize) -> usize
-    ensures { result ≡ (if test then one else other) }
+// Links a gap of a chain to another cell, and gives the one that it was linked to.
+fn relink(cells: &mut Vec<Cell>, ends: &mut Ends, before: Option<usize>, to: usize) -> usize
+    requires { IfSome before (λ p. p < vec_len cells.old) }
+    ensures was { result ≡ link cells.old.items ends.old before }
+    ensures len { vec_len cells.new ≡ vec_len cells.old }
+    ensures cells { cells.new.items ≡ relinked cells.old.items before to }
+    ensures ends { ends.new ≡ with_link ends.old before to }
 {
-    if test { one } else { other }
+    match before {
+        Some(cell) => replace(&mut cells[cell].next, to),
+        None => replace(&mut ends.first, to),
+    }
 }
 
 // Links each cell to the one after it in memory.
@@ -61,163 +69,54 @@ impl Chains {
 
     /// Takes a free cell for the range and links it into the chain at the gap.
     pub(crate) fn insert(&mut self, chain: Chain, gap: Gap, low: u64, high: u64)
-        requires stands { Stands self.old chain.number gap.place gap.before }
+        requires stands { Stands self.old chain.number gap }
         requires room { 0 < free_of self.old }
         ensures changed { Changed self.old self.new chain.number (take gap.place (ranges_of self.old chain.number) ++ (low, high) ∷ drop gap.place (ranges_of self.old chain.number)) }
-        ensures stands { Stands self.new chain.number gap.place gap.before }
+        ensures stands { Stands self.new chain.number gap }
         ensures free { free_of self.new + 1 ≡ free_of self.old }
     {
-        if gap.place == 0 {
-            self.insert_first(chain, low, high);
-        } else {
-            self.insert_after(chain, gap, low, high);
+        let mut set = self.ends[chain.number];
+        let mut free = self.ends[FREE];
+        let cell = free.first;
+        free.first = self.cells[cell].next;
+        free.count -= 1;
+        if gap.place == set.count {
+            set.last = cell;
         }
-    }
-
-    // Links a free cell in before the first cell of the chain.
-    fn insert_first(&mut self, chain: Chain, low: u64, high: u64)
-        requires { 0 < free_of self.old }
-        ensures changed { Changed self.old self.new chain.number ((low, high) ∷ ranges_of self.old chain.number) }
-        ensures free { free_of self.new + 1 ≡ free_of self.old }
-    {
-        let set = self.ends[chain.number];
-        let free = self.ends[FREE];
-        let spare = self.cells[free.first];
-        let last = pick(set.count == 0, free.first, set.last);
-        self.cells[free.first] = Cell {
-            low,
-            high,
-            next: set.first,
-        };
-        self.ends[chain.number] = Ends {
-            first: free.first,
-            last,
-            count: set.count + 1,
-        };
-        self.ends[FREE] = Ends {
-            first: spare.next,
-            last: free.last,
-            count: free.count - 1,
-        };
-    }
-
-    // Links a free cell in behind a cell of the chain.
-    fn insert_after(&mut self, chain: Chain, gap: Gap, low: u64, high: u64)
-        requires some { 0 < gap.place }
-        requires stands { Stands self.old chain.number gap.place gap.before }
-        requires room { 0 < free_of self.old }
-        ensures changed { Changed self.old self.new chain.number (take gap.place (ranges_of self.old chain.number) ++ (low, high) ∷ drop gap.place (ranges_of self.old chain.number)) }
-        ensures stands { Stands self.new chain.number gap.place gap.before }
-        ensures free { free_of self.new + 1 ≡ free_of self.old }
-    {
-        let set = self.ends[chain.number];
-        let free = self.ends[FREE];
-        let spare = self.cells[free.first];
-        let before = self.cells[gap.before];
-        let last = pick(set.last == gap.before, free.first, set.last);
-        self.cells[free.first] = Cell {
-            low,
-            high,
-            next: before.next,
-        };
-        self.cells[gap.before] = Cell {
-            low: before.low,
-            high: before.high,
-            next: free.first,
-        };
-        self.ends[chain.number] = Ends {
-            first: set.first,
-            last,
-            count: set.count + 1,
-        };
-        self.ends[FREE] = Ends {
-            first: spare.next,
-            last: free.last,
-            count: free.count - 1,
-        };
+        set.count += 1;
+        let next = relink(&mut self.cells, &mut set, gap.before, cell);
+        self.cells[cell] = Cell { low, high, next };
+        self.ends[chain.number] = set;
+        self.ends[FREE] = free;
     }
 
     /// Links cells out of the chain and hands them to the free chain as they are linked.
     pub(crate) fn remove(&mut self, chain: Chain, run: Run)
-        requires stands { Stands self.old chain.number run.gap.place run.gap.before }
-        requires follow { Follow self.old chain.number run.gap.place run.number run.last }
-        ensures changed { Changed self.old self.new chain.number (take run.gap.place (ranges_of self.old chain.number) ++ drop (run.gap.place + run.number) (ranges_of self.old chain.number)) }
-        ensures stands { Stands self.new chain.number run.gap.place run.gap.before }
-        ensures free { free_of self.new ≡ free_of self.old + run.number }
+        requires stands { Stands self.old chain.number run.gap }
+        requires follow { Follow self.old chain.number run }
+        ensures changed { Changed self.old self.new chain.number (take run.gap.place (ranges_of self.old chain.number) ++ drop (run.gap.place + run.ends.count) (ranges_of self.old chain.number)) }
+        ensures stands { Stands self.new chain.number run.gap }
+        ensures free { free_of self.new ≡ free_of self.old + run.ends.count }
     {
-        if run.number == 0 {
+        let Run { gap, ends } = run;
+        if ends.count == 0 {
             return;
         }
-        if run.gap.place == 0 {
-            self.remove_first(chain, run.number, run.last);
-        } else {
-            self.remove_after(chain, run);
+        let mut set = self.ends[chain.number];
+        let mut free = self.ends[FREE];
+        if set.last == ends.last {
+            set.last = gap.before.unwrap_or(set.last);
         }
-    }
-
-    // The first cells of the chain, up to `last`.
-    fn remove_first(&mut self, chain: Chain, number: usize, last: usize)
-        requires some { 0 < number }
-        requires follow { Follow self.old chain.number 0 number last }
-        ensures changed { Changed self.old self.new chain.number (drop number (ranges_of self.old chain.number)) }
-        ensures free { free_of self.new ≡ free_of self.old + number }
-    {
-        let set = self.ends[chain.number];
-        let free = self.ends[FREE];
-        let end = self.cells[last];
-        let free_last = pick(free.count == 0, last, free.last);
-        self.cells[last] = Cell {
-            low: end.low,
-            high: end.high,
-            next: free.first,
-        };
-        self.ends[chain.number] = Ends {
-            first: end.next,
-            last: set.last,
-            count: set.count - number,
-        };
-        self.ends[FREE] = Ends {
-            first: set.first,
-            last: free_last,
-            count: free.count + number,
-        };
-    }
-
-    // The cells behind one of the chain, up to the run's last.
-    fn remove_after(&mut self, chain: Chain, run: Run)
-        requires some { 0 < run.number }
-        requires behind { 0 < run.gap.place }
-        requires stands { Stands self.old chain.number run.gap.place run.gap.before }
-        requires follow { Follow self.old chain.number run.gap.place run.number run.last }
-        ensures changed { Changed self.old self.new chain.number (take run.gap.place (ranges_of self.old chain.number) ++ drop (run.gap.place + run.number) (ranges_of self.old chain.number)) }
-        ensures stands { Stands self.new chain.number run.gap.place run.gap.before }
-        ensures free { free_of self.new ≡ free_of self.old + run.number }
-    {
-        let set = self.ends[chain.number];
-        let free = self.ends[FREE];
-        let before = self.cells[run.gap.before];
-        let end = self.cells[run.last];
-        let last = pick(set.last == run.last, run.gap.before, set.last);
-        let free_last = pick(free.count == 0, run.last, free.last);
-        self.cells[run.gap.before] = Cell {
-            low: before.low,
-            high: before.high,
-            next: end.next,
-        };
-        self.cells[run.last] = Cell {
-            low: end.low,
-            high: end.high,
-            next: free.first,
-        };
-        self.ends[chain.number] = Ends {
-            first: set.first,
-            last,
-            count: set.count - run.number,
-        };
-        self.ends[FREE] = Ends {
-            first: before.next,
-            last: free_last,
-            count: free.count + run.number,
-        };
+        set.count -= ends.count;
+        let rest = self.cells[ends.last].next;
+        relink(&mut self.cells, &mut set, gap.before, rest);
+        self.cells[ends.last].next = free.first;
+        free.first = ends.first;
+        if free.count == 0 {
+            free.last = ends.last;
+        }
+        free.count += ends.count;
+        self.ends[chain.number] = set;
+        self.ends[FREE] = free;
     }
 }

@@ -1,10 +1,11 @@
 // Walks along a chain, and what is asked of a set.
-ghost use Rattle.std.specs.Prelude.{◌≡◌, ◌<◌, slice_index};
+ghost use Rattle.std.specs.Prelude.{◌≡◌, ℕ, ◌<◌, ◌≤◌, true, false};
 ghost use Rattle.store.specs.Ranges.{Canonical, has, next_range};
-ghost use Rattle.cells.specs.Chains.{numbers_of, ranges_of, Stands, Follow, GoesOn};
+ghost use Rattle.cells.specs.Chains.{count_of, ranges_of, cell_at, Stands, Follow, GoesOn};
 ghost use Rattle.cells.specs.Places.{EndingBelow, BeginningWithin};
 
-use crate::chains::{Chain, Chains, Gap, Run};
+use crate::cell::{Cell, Ends};
+use crate::chains::{Chain, Chains, FRONT, Gap, Run};
 
 /// A gap, and the cell behind it; `at` is no cell at the end of the chain.
 #[derive(Clone, Copy)]
@@ -17,7 +18,7 @@ impl Chains {
     /// The gap behind the ranges that end below `n`. Behind the last range it is found without a walk.
     fn ending_below(&self, chain: Chain, n: u64) -> Spot
         requires { Canonical (ranges_of self.now chain.number) }
-        ensures stands { Stands self.now chain.number result.gap.place result.gap.before }
+        ensures stands { Stands self.now chain.number result.gap }
         ensures on { GoesOn self.now chain.number result.gap.place result.at }
         ensures below { EndingBelow (ranges_of self.now chain.number) n result.gap.place }
     {
@@ -28,70 +29,64 @@ impl Chains {
                 return Spot {
                     gap: Gap {
                         place: ends.count,
-                        before: ends.last,
+                        before: Some(ends.last),
                     },
                     at: last.next,
                 };
             }
         }
-        self.walk_to(chain, n)
+        let front = Spot {
+            gap: FRONT,
+            at: ends.first,
+        };
+        self.walk_while(chain, front, |cell| cell.high < n)
     }
 
-    // The same from the first cell on.
-    fn walk_to(&self, chain: Chain, n: u64) -> Spot
-        ensures stands { Stands self.now chain.number result.gap.place result.gap.before }
+    // Steps over the cells from the spot on, for as long as they pass.
+    fn walk_while<F: Fn(Cell) -> bool>(&self, chain: Chain, from: Spot, passes: F) -> Spot
+        requires callable { F.IsAlwaysCallable passes }
+        requires stands { Stands self.now chain.number from.gap }
+        requires on { GoesOn self.now chain.number from.gap.place from.at }
+        ensures stands { Stands self.now chain.number result.gap }
         ensures on { GoesOn self.now chain.number result.gap.place result.at }
-        ensures below { EndingBelow (ranges_of self.now chain.number) n result.gap.place }
+        ensures from { from.gap.place ≤ result.gap.place }
+        ensures passed { (i : ℕ) → from.gap.place ≤ i → i < result.gap.place → F.post passes (cell_at self.now chain.number i) true }
+        ensures stopped { result.gap.place < count_of self.now chain.number → F.post passes (cell_at self.now chain.number result.gap.place) false }
     {
-        let set = chain.number;
-        let ends = self.ends[set];
-        let mut place = 0;
-        let mut before = ends.first;
-        let mut at = ends.first;
-        while place < ends.count {
-            let cell = self.cells[at];
-            if cell.high >= n {
+        let mut spot = from;
+        for place in from.gap.place..self.ends[chain.number].count {
+            let cell = self.cells[spot.at];
+            if !passes(cell) {
                 break;
             }
-            before = at;
-            at = cell.next;
-            place += 1;
+            spot = Spot {
+                gap: Gap {
+                    place: place + 1,
+                    before: Some(spot.at),
+                },
+                at: cell.next,
+            };
         }
-        Spot {
-            gap: Gap { place, before },
-            at,
-        }
+        spot
     }
 
     /// The cells whose ranges meet low..high.
     pub(crate) fn meeting(&self, chain: Chain, low: u64, high: u64) -> Run
         requires { Canonical (ranges_of self.now chain.number) }
-        ensures stands { Stands self.now chain.number result.gap.place result.gap.before }
-        ensures first { 0 < result.number → slice_index (numbers_of self.now chain.number) result.gap.place ≡ result.first }
-        ensures follow { Follow self.now chain.number result.gap.place result.number result.last }
+        ensures stands { Stands self.now chain.number result.gap }
+        ensures follow { Follow self.now chain.number result }
         ensures below { EndingBelow (ranges_of self.now chain.number) low result.gap.place }
-        ensures met { BeginningWithin (ranges_of self.now chain.number) high result.gap.place result.number }
+        ensures met { BeginningWithin (ranges_of self.now chain.number) high result.gap.place result.ends.count }
     {
         let from = self.ending_below(chain, low);
-        let set = chain.number;
-        let count = self.ends[set].count;
-        let mut number = 0;
-        let mut last = from.at;
-        let mut at = from.at;
-        while number < count - from.gap.place {
-            let cell = self.cells[at];
-            if cell.low > high {
-                break;
-            }
-            last = at;
-            at = cell.next;
-            number += 1;
-        }
+        let to = self.walk_while(chain, from, |cell| cell.low <= high);
         Run {
             gap: from.gap,
-            first: from.at,
-            number,
-            last,
+            ends: Ends {
+                first: from.at,
+                last: to.gap.before.unwrap_or(from.at),
+                count: to.gap.place - from.gap.place,
+            },
         }
     }
 

@@ -3,26 +3,18 @@ ghost use Rattle.std.specs.Prelude.{◌≡◌, ℕ, ◌-◌, ◌<◌, [], ◌∷
 ghost use Rattle.cells.specs.Chains.{count_of, ranges_of, Changed};
 ghost use Rattle.cells.specs.Places.{at_place};
 
-use crate::chains::{Chain, Chains, Gap, Run};
+use crate::chains::{Chain, Chains, FRONT, Run};
 
 impl Chains {
     /// Hands all cells of the chain to the free chain, in a constant number of steps.
     pub(crate) fn clear(&mut self, chain: Chain)
         ensures { Changed self.old self.new chain.number [] }
     {
-        let set = self.ends[chain.number];
-        self.remove(
-            chain,
-            Run {
-                gap: Gap {
-                    place: 0,
-                    before: 0,
-                },
-                first: set.first,
-                number: set.count,
-                last: set.last,
-            },
-        );
+        let run = Run {
+            gap: FRONT,
+            ends: self.ends[chain.number],
+        };
+        self.remove(chain, run);
     }
 
     /// Two chains change places, in a constant number of steps.

@@ -3,7 +3,7 @@ use Rattle.std.proofs.Common.{◌≡◌, ◌+◌, ◌-◌, get_or, ap, ◌∙◌
 use Rattle.std.proofs.lemmas.List.{drop_all}
 use Rattle.cells.specs.Chains.{numbers_of, count_of, ranges_of, Changed}
 use Rattle.cells.specs.Held.{ranges_many}
-use Rattle.cells.proofs.Steps.{last_at}
+use Rattle.cells.proofs.Steps.{first_at, last_at, stand_front}
 use Rattle.cells.proofs.chains.Chains.clear.Goals as goal
 
 pub remove-requires : goal.remove-requires
@@ -12,8 +12,8 @@ remove-requires c =
     let k = c.args.chain.number in
     let z : 0 + count_of x k - 1 ≡ count_of x k - 1 = omega arith in
     record {
-      stands = record { inside = omega arith; behind = λ p. absurd (omega arith) };
-      follow = record { inside = omega arith; ends_in = λ p. ap (λ n. get_or (numbers_of x k) n 0) z ∙ last_at x k c.args.chain.small p };
+      stands = stand_front x k;
+      follow = record { inside = omega arith; begins = λ p. first_at x k c.args.chain.small p; ends_in = λ p. ap (λ n. get_or (numbers_of x k) n 0) z ∙ last_at x k c.args.chain.small p };
     }
 
 pub returns : goal.returns

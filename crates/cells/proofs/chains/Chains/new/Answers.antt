@@ -1,5 +1,5 @@
 -- All cells are free.
-use Rattle.std.proofs.Common.{◌≡◌, ℕ, ◌+◌, ◌<◌, ◌≤◌, length, vec_items, sym, refl, ◌∙◌, arith}
+use Rattle.std.proofs.Common.{◌≡◌, ℕ, ◌+◌, ◌<◌, length, vec_items, sym, refl, ◌∙◌, arith}
 use Rattle.cells.specs.Links.{cell}
 use Rattle.cells.proofs.Fresh.{fresh_running, fresh_ending, fresh_parted, fresh_sum, fresh_empty}
 use Rattle.cells.proofs.chains.Chains.new.Goals as goal

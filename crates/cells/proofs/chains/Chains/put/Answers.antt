@@ -13,8 +13,8 @@ joined-joined-requires c =
     let r = c.meeting-run.result in
     let e = c.meeting-run.ensures in
     record {
-      first = first_cell x c.args.chain.number c.args.chain.small r.gap.place r.number r.first r.last e.first e.follow;
-      last = last_cell x c.args.chain.number c.args.chain.small r.gap.place r.number r.first r.last e.first e.follow;
+      first = first_cell x c.args.chain.number c.args.chain.small r e.follow;
+      last = last_cell x c.args.chain.number c.args.chain.small r e.follow;
     }
 
 pub returns-then-grow_last : goal.returns-then-grow_last
@@ -34,6 +34,6 @@ returns c =
     let f : Canonical (ranges_of w k) = subst (λ z. Canonical (ranges_of z k)) (sym same) c.requires in
     let below : (id : ℕ) → ltb id c.adjoining_below-low.result ≡ apart id g.low = λ id. c.adjoining_below-low.ensures id ∙ ap (apart id) c.low.ensures.value in
     let above : (id : ℕ) → ltb c.adjoining_above-high.result id ≡ apart g.high id = λ id. c.adjoining_above-high.ensures id ∙ ap (λ n. apart n id) c.high.ensures.value in
-    let made = put_changes w k c.args.chain.small r.gap.place r.number r.first r.last e.first e.follow y f g.low g.high law c.replace.result c.adjoining_below-low.result c.adjoining_above-high.result c.joined-joined.result below above e.below e.met c.joined-joined.ensures.alone c.joined-joined.ensures.whole c.replace.ensures in
+    let made = put_changes w k c.args.chain.small r e.follow y f g.low g.high law c.replace.result c.adjoining_below-low.result c.adjoining_above-high.result c.joined-joined.result below above e.below e.met c.joined-joined.ensures.alone c.joined-joined.ensures.whole c.replace.ensures in
     let changed = subst (λ z. ChangedIfItFits z y k (with_range g.low g.high (ranges_of z k)) c.replace.result) same made in
     record { order = order_if_it_fits x y k _ c.replace.result c.requires (adding_keeps_order 0 g.low g.high (ranges_of x k) (omega arith) law c.requires) changed; changed = changed }

@@ -1,17 +1,84 @@
--- No cells at all, the first ones, or some behind a cell.
-use Rattle.std.proofs.Common.{◌≡◌, ◌+◌, ◌++◌, take, drop, ap, ◌∙◌, arith, take-append-drop}
+-- No cells at all, or those behind the gap, which are handed to the free chain.
+use Rattle.std.proofs.Common.{◌≡◌, ◌+◌, ◌-◌, ◌<◌, ◌++◌, take, drop, vec_items, sym, refl, ap, ◌∙◌, arith, take-append-drop}
+use Rattle.std.proofs.lemmas.List.{get_or_read}
+use Rattle.cells.specs.Links.{ends}
 use Rattle.cells.specs.Chains.{ranges_of}
-use Rattle.cells.specs.Held.{unchanged}
+use Rattle.cells.specs.Held.{linked, long, before_fits, end_fits, both_fit, read, changed, still_stands, unchanged}
+use Rattle.cells.proofs.RemovesAfter.{After, longer}
+use Rattle.cells.proofs.RemovesFirst.{cut, cut_end, cut_within, longer_from_none, longer_from_some, removed_at}
 use Rattle.cells.proofs.chains.Chains.remove.Goals as goal
+use Rattle.cells.proofs.chains.Chains.remove.Goals.{Joined-free-eq0, then-set-ends, else-set-ends, then-free-eq0, else-free-eq0}
 
-pub returns-then-run-eq0 : goal.returns-then-run-eq0
-returns-then-run-eq0 c =
+pub returns-then-ends-eq0 : goal.returns-then-ends-eq0
+returns-then-ends-eq0 c =
     let x = c.args.self.now in
     let k = c.args.chain.number in
     let r = c.args.run in
-    let z : r.gap.place + r.number ≡ r.gap.place = omega (arith, c.if-run-eq0.true) in
+    let z : r.gap.place + r.ends.count ≡ r.gap.place = omega (arith, c.if-ends-eq0.true) in
     record {
       changed = unchanged x k _ (ap (λ n. take r.gap.place (ranges_of x k) ++ drop n (ranges_of x k)) z ∙ take-append-drop r.gap.place (ranges_of x k));
       stands = c.requires.stands;
-      free = omega (arith, c.if-run-eq0.true);
+      free = omega (arith, c.if-ends-eq0.true);
+    }
+
+pub index-requires : goal.index-requires
+index-requires c = end_fits c.args.self.now c.args.chain.number c.args.run c.args.chain.small (omega (arith, c.if-ends-eq0.false)) c.requires.follow
+
+pub relink-requires : goal.relink-requires
+relink-requires c = before_fits c.args.self.now c.args.chain.number c.args.run.gap c.args.chain.small c.requires.stands
+
+pub index_mut-requires : goal.index_mut-requires
+index_mut-requires c = omega (arith, c.relink.ensures.len, end_fits c.args.self.now c.args.chain.number c.args.run c.args.chain.small (omega (arith, c.if-ends-eq0.false)) c.requires.follow)
+
+pub overflow_add-free : goal.overflow_add-free
+overflow_add-free c =
+    let fits = both_fit c.args.self.now c.args.chain.number c.args.chain.small in
+    elim c.if-free-eq0.branch [
+      | then-free-eq0 w ↦ omega (arith, fits, c.requires.follow.inside, ap (λ e. e.count) w.free-is)
+      | else-free-eq0 w ↦ omega (arith, fits, c.requires.follow.inside, ap (λ e. e.count) w.free-is)
+    ]
+
+fewer : (c : Joined-free-eq0) → (let z = c.if-set-ends.set in record { first = z.first; last = z.last; count = z.count - c.args.run.ends.count }) ≡ cut (ends c.args.self.now.ends c.args.chain.number) c.args.run.ends.count c.args.run.ends.last c.args.run.gap.before
+fewer c =
+    let e = ends c.args.self.now.ends c.args.chain.number in
+    let r = c.args.run in
+    elim c.if-set-ends.branch [
+      | then-set-ends w ↦ cut_end c.if-set-ends.set e r.ends.count r.ends.last r.gap.before w.unwrap_or.result w.if-set-ends.true w.unwrap_or.ensures w.set-is
+      | else-set-ends w ↦ cut_within c.if-set-ends.set e r.ends.count r.ends.last r.gap.before w.if-set-ends.false w.set-is
+    ]
+
+more : (c : Joined-free-eq0) → (let z = c.if-free-eq0.free in record { first = z.first; last = z.last; count = z.count + c.args.run.ends.count }) ≡ longer (ends c.args.self.now.ends 11) c.args.run.ends.count c.args.run.ends.last c.args.run.ends.first
+more c =
+    let e = ends c.args.self.now.ends 11 in
+    let r = c.args.run in
+    elim c.if-free-eq0.branch [
+      | then-free-eq0 w ↦ longer_from_none c.if-free-eq0.free e r.ends.count r.ends.last r.ends.first w.if-free-eq0.true w.free-is
+      | else-free-eq0 w ↦ longer_from_some c.if-free-eq0.free e r.ends.count r.ends.last r.ends.first w.if-free-eq0.false w.free-is
+    ]
+
+done : (c : Joined-free-eq0) → (let z = c.if-free-eq0.free in After (vec_items c.args.self.now.cells) c.args.self.now.ends c.args.chain.number c.args.run.gap.place c.args.run.ends.count c.args.run.ends.last (vec_items c.relink.new.cells) c.relink.new.ends c.index_mut.result.now (record { first = z.first; last = z.last; count = z.count + c.args.run.ends.count }))
+done c =
+    let x = c.args.self.now in
+    let k = c.args.chain.number in
+    let r = c.args.run in
+    let f = c.requires.follow in
+    let some : 0 < r.ends.count = omega (arith, c.if-ends-eq0.false) in
+    let fits = end_fits x k r c.args.chain.small some f in
+    removed_at (vec_items x.cells) x.ends k (linked x) x.twelve c.args.chain.small r.gap.place r.ends.count r.ends.last r.ends.first some f.inside (f.ends_in some) (f.begins some) r.gap.before c.requires.stands.behind
+    _ (fewer c) _ (ap (λ z. z.next) (read x _ c.index.result.now fits c.index.ensures)) _ c.relink.ensures.cells _ c.relink.ensures.ends
+    c.index_mut.result.now (sym (get_or_read (vec_items c.relink.new.cells) r.ends.last c.index_mut.result.now (omega (arith, fits, c.relink.ensures.len, c.relink.new.cells.ok.0)) c.index_mut.ensures.value _)) _ (more c)
+
+pub invariant_of-self : goal.invariant_of-self
+invariant_of-self c =
+    let x = c.args.self.now in
+    let m = done (goal.at.invariant_of-self c).Joined-free-eq0 in
+    record { least = omega (arith, x.least, c.relink.ensures.len); most = omega (arith, x.most, c.relink.ensures.len); twelve = m.twelve; running = m.running; ending = m.ending; parted = m.parted; whole = m.whole ∙ long x ∙ sym c.relink.ensures.len }
+
+pub returns : goal.returns
+returns c =
+    let m = done (goal.at.returns c).Joined-free-eq0 in
+    record {
+      changed = changed c.args.self.now _ c.args.chain.number _ _ _ m;
+      stands = still_stands c.args.self.now _ c.args.chain.number _ _ _ m c.args.run.gap _ c.args.chain.small refl c.requires.stands;
+      free = omega (arith, m.free, ap (λ e. e.count) (more (goal.at.returns c).Joined-free-eq0));
     }

@@ -12,11 +12,11 @@ overflow_add-free c = omega (arith, both_fit c.args.self.now c.args.chain.number
 pub returns-then-free-run : goal.returns-then-free-run
 returns-then-free-run c =
     let r = c.args.run in
-    let n = longer c.args.self.now c.args.chain.number r.gap.place r.number (one_or_none c.args.lower) (one_or_none c.args.upper) c.args.chain.small c.requires.follow.inside in
+    let n = longer c.args.self.now c.args.chain.number r.gap.place r.ends.count (one_or_none c.args.lower) (one_or_none c.args.upper) c.args.chain.small c.requires.follow.inside in
     (refl, refl, omega (arith, n, c.free.ensures, c.from.ensures, c.from-2.ensures, ap from_bool c.is_some.ensures, ap from_bool c.is_some-2.ensures, counted c.args.lower, counted c.args.upper, c.if-free-run.true))
 
 pub returns : goal.returns
 returns c =
     let r = c.args.run in
-    replaced c.args.self.now c.remove.new.self c.insert_any.new.self c.insert_any-2.new.self c.args.chain.number r.gap.place r.number c.args.lower c.args.upper c.args.chain.small c.requires.follow.inside
+    replaced c.args.self.now c.remove.new.self c.insert_any.new.self c.insert_any-2.new.self c.args.chain.number r.gap.place r.ends.count c.args.lower c.args.upper c.args.chain.small c.requires.follow.inside
     c.remove.ensures.changed c.insert_any.ensures.changed c.insert_any-2.ensures.changed

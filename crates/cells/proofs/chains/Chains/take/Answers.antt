@@ -18,21 +18,21 @@ returns-then-run-eq0 c =
     let law = subst (λ n. Lawful n g.high) c.low-low.ensures.value c.low-low.ensures.lawful in
     record {
       order = c.requires;
-      changed = takes_nothing x k c.requires g.low g.high r.gap.place r.number law
-          (subst (λ n. EndingBelow (ranges_of x k) n r.gap.place) c.low-low.ensures.value e.below) (subst (λ n. BeginningWithin (ranges_of x k) n r.gap.place r.number) c.high-high.ensures.value e.met) c.if-run-eq0.true;
+      changed = takes_nothing x k c.requires g.low g.high r.gap.place r.ends.count law
+          (subst (λ n. EndingBelow (ranges_of x k) n r.gap.place) c.low-low.ensures.value e.below) (subst (λ n. BeginningWithin (ranges_of x k) n r.gap.place r.ends.count) c.high-high.ensures.value e.met) c.if-run-eq0.true;
     }
 
 pub index-first-requires : goal.index-first-requires
 index-first-requires c =
     let r = c.meeting-run.result in
     let e = c.meeting-run.ensures in
-    first_cell c.args.self.now c.args.chain.number c.args.chain.small r.gap.place r.number r.first r.last e.first e.follow (omega (arith, c.if-run-eq0.false))
+    first_cell c.args.self.now c.args.chain.number c.args.chain.small r e.follow (omega (arith, c.if-run-eq0.false))
 
 pub index-last-requires : goal.index-last-requires
 index-last-requires c =
     let r = c.meeting-run.result in
     let e = c.meeting-run.ensures in
-    last_cell c.args.self.now c.args.chain.number c.args.chain.small r.gap.place r.number r.first r.last e.first e.follow (omega (arith, c.if-run-eq0.false))
+    last_cell c.args.self.now c.args.chain.number c.args.chain.small r e.follow (omega (arith, c.if-run-eq0.false))
 
 pub returns : goal.returns
 returns c =
@@ -42,13 +42,13 @@ returns c =
     let g = c.args.range in
     let r = c.meeting-run.result in
     let e = c.meeting-run.ensures in
-    let some : 0 < r.number = omega (arith, c.if-run-eq0.false) in
+    let some : 0 < r.ends.count = omega (arith, c.if-run-eq0.false) in
     let law = subst (λ n. Lawful n g.high) c.low-low.ensures.value c.low-low.ensures.lawful in
-    let first = read x r.first c.index-first.result.now (first_cell x k c.args.chain.small r.gap.place r.number r.first r.last e.first e.follow some) c.index-first.ensures in
-    let last = read x r.last c.index-last.result.now (last_cell x k c.args.chain.small r.gap.place r.number r.first r.last e.first e.follow some) c.index-last.ensures in
-    let changed = take_changes x k c.args.chain.small r.gap.place r.number r.first r.last e.first e.follow y c.requires g.low g.high law c.replace.result
+    let first = read x r.ends.first c.index-first.result.now (first_cell x k c.args.chain.small r e.follow some) c.index-first.ensures in
+    let last = read x r.ends.last c.index-last.result.now (last_cell x k c.args.chain.small r e.follow some) c.index-last.ensures in
+    let changed = take_changes x k c.args.chain.small r e.follow y c.requires g.low g.high law c.replace.result
     (one_or_none c.part_below-lower.result) (one_or_none c.part_above-upper.result) some
-    (subst (λ n. EndingBelow (ranges_of x k) n r.gap.place) c.low-low.ensures.value e.below) (subst (λ n. BeginningWithin (ranges_of x k) n r.gap.place r.number) c.high-high.ensures.value e.met)
+    (subst (λ n. EndingBelow (ranges_of x k) n r.gap.place) c.low-low.ensures.value e.below) (subst (λ n. BeginningWithin (ranges_of x k) n r.gap.place r.ends.count) c.high-high.ensures.value e.met)
     (c.part_below-lower.ensures ∙ ap (λ n. cond (ltb c.index-first.result.now.low n) ((c.index-first.result.now.low, n - 1) ∷ []) []) c.low-low.ensures.value ∙ ap (λ z. cond (ltb z.low g.low) ((z.low, g.low - 1) ∷ []) []) (sym first))
     (c.part_above-upper.ensures ∙ ap (λ n. cond (ltb n c.index-last.result.now.high) ((n + 1, c.index-last.result.now.high) ∷ []) []) c.high-high.ensures.value ∙ ap (λ z. cond (ltb g.high z.high) ((g.high + 1, z.high) ∷ []) []) (sym last))
     c.replace.ensures in

@@ -1,0 +1,56 @@
+-- A free cell is linked in at the gap.
+use Rattle.std.proofs.Common.{◌≡◌, ◌+◌, eqb, vec_items, sym, refl, ap, ◌∙◌, arith}
+use Rattle.cells.specs.Links.{ends}
+use Rattle.cells.specs.Held.{linked, long, first_fits, both_fit, before_fits, read, changed, still_stands}
+use Rattle.cells.proofs.Inserts.{After}
+use Rattle.cells.proofs.InsertsFirst.{grown, grown_behind, grown_within, inserted_at}
+use Rattle.cells.proofs.chains.Chains.insert.Goals as goal
+use Rattle.cells.proofs.chains.Chains.insert.Goals.{After-relink-next, then-gap-set, else-gap-set}
+
+pub index-requires : goal.index-requires
+index-requires c = first_fits c.args.self.now 11 (omega arith) c.requires.room
+
+one_more : (c : After-relink-next) → (let z = c.if-gap-set.set in record { first = z.first; last = z.last; count = z.count + 1 }) ≡ grown (ends c.args.self.now.ends c.args.chain.number) (eqb c.args.gap.place (ends c.args.self.now.ends c.args.chain.number).count) (ends c.args.self.now.ends 11).first
+one_more c =
+    let e = ends c.args.self.now.ends c.args.chain.number in
+    let f = (ends c.args.self.now.ends 11).first in
+    elim c.if-gap-set.branch [
+      | then-gap-set w ↦ grown_behind c.if-gap-set.set e c.args.gap.place e.count f w.if-gap-set.true w.set-is
+      | else-gap-set w ↦ grown_within c.if-gap-set.set e c.args.gap.place e.count f w.if-gap-set.false w.set-is
+    ]
+
+pub overflow_add-set : goal.overflow_add-set
+overflow_add-set c =
+    let fits = both_fit c.args.self.now c.args.chain.number c.args.chain.small in
+    elim c.if-gap-set.branch [
+      | then-gap-set w ↦ omega (arith, fits, ap (λ e. e.count) w.set-is)
+      | else-gap-set w ↦ omega (arith, fits, ap (λ e. e.count) w.set-is)
+    ]
+
+pub relink-next-requires : goal.relink-next-requires
+relink-next-requires c = before_fits c.args.self.now c.args.chain.number c.args.gap c.args.chain.small c.requires.stands
+
+pub index_mut-requires : goal.index_mut-requires
+index_mut-requires c = omega (arith, c.relink-next.ensures.len, first_fits c.args.self.now 11 (omega arith) c.requires.room)
+
+done : (c : After-relink-next) → After (vec_items c.args.self.now.cells) c.args.self.now.ends c.args.chain.number c.args.gap.place c.args.low c.args.high (vec_items c.relink-next.new.cells) c.relink-next.new.ends c.relink-next.result c.index.result.now.next
+done c =
+    let x = c.args.self.now in
+    let r = c.relink-next in
+    inserted_at (vec_items x.cells) x.ends c.args.chain.number c.args.low c.args.high (linked x) x.twelve c.args.chain.small c.requires.room c.args.gap.place c.requires.stands.inside c.args.gap.before c.requires.stands.behind
+    _ (one_more c) _ r.ensures.cells _ r.ensures.ends _ r.ensures.was c.index.result.now (read x _ c.index.result.now (first_fits x 11 (omega arith) c.requires.room) c.index.ensures)
+
+pub invariant_of-self : goal.invariant_of-self
+invariant_of-self c =
+    let x = c.args.self.now in
+    let m = done (goal.at.invariant_of-self c).After-relink-next in
+    record { least = omega (arith, x.least, c.relink-next.ensures.len); most = omega (arith, x.most, c.relink-next.ensures.len); twelve = m.twelve; running = m.running; ending = m.ending; parted = m.parted; whole = m.whole ∙ long x ∙ sym c.relink-next.ensures.len }
+
+pub returns : goal.returns
+returns c =
+    let m = done (goal.at.returns c).After-relink-next in
+    record {
+      changed = changed c.args.self.now _ c.args.chain.number _ _ _ m;
+      stands = still_stands c.args.self.now _ c.args.chain.number _ _ _ m c.args.gap _ c.args.chain.small refl c.requires.stands;
+      free = omega (arith, m.free, c.requires.room);
+    }
