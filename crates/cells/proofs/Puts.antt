@@ -1,5 +1,5 @@
 -- The ranges of a chain with a range put into them, and taken out.
-use Rattle.std.proofs.Common.{◌≡◌, ℕ, ◌+◌, ◌-◌, ◌<◌, ◌≤◌, min, max, cond, ltb, List, [], ◌∷◌, ◌++◌, length, get_or, take, drop, Ok, Err, vec_items, vec_len, Result, sym, refl, ap, ◌∙◌, subst, arith}
+use Rattle.std.proofs.Common.{◌≡◌, ℕ, ◌+◌, ◌-◌, ◌<◌, ◌≤◌, min, max, cond, ltb, List, [], ◌∷◌, ◌++◌, length, get_or, take, drop, vec_items, vec_len, Result, sym, refl, ap, ◌∙◌, subst, arith}
 use Rattle.store.specs.Ids.{Lawful}
 use Rattle.store.specs.Ranges.{Span, Canonical, apart, with_range, without_range}
 use Rattle.store.specs.declared.refusal.StoreRefusal.{StoreRefusal}
@@ -72,8 +72,3 @@ module _ (x : Chains) (k : ℕ) (h : k < 11) (run : Run) (follow : Follow x k ru
 -- nothing met, nothing taken
 pub takes_nothing : (x : Chains) (k : ℕ) → Canonical (ranges_of x k) → (lo hi place number : ℕ) → Lawful lo hi → EndingBelow (ranges_of x k) lo place → BeginningWithin (ranges_of x k) hi place number → number ≡ 0 → Changed x x k (without_range lo hi (ranges_of x k))
 takes_nothing x k f lo hi place number law ending beginning e = unchanged x k _ (take_nothing lo hi (ranges_of x k) place number f law ending beginning e)
-
--- the ranges stay in order
-pub order_if_it_fits : {X : Type 0} (x y : Chains) (k : ℕ) (rs : List Span) (r : Result X StoreRefusal) → Canonical (ranges_of x k) → Canonical rs → ChangedIfItFits x y k rs r → Canonical (ranges_of y k)
-order_if_it_fits x y k rs (Ok v) o f c = subst Canonical (sym c.here) f
-order_if_it_fits x y k rs (Err e) o f c = subst (λ z. Canonical (ranges_of z k)) (sym c.1) o

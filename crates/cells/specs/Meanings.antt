@@ -48,8 +48,8 @@ still_ordered x y k rs o f c j h =
     (λ ne. ap (in_order 0) (c.others j h ne) ∙ o j h)
     (cases_eq j k)
 
-pub ordered_if_it_fits : {X : Type 0} (x y : Chains) (k : ℕ) (rs : List Span) (r : Result X StoreRefusal) → Ordered x → Canonical (ranges_of y k) → ChangedIfItFits x y k rs r → Ordered y
-ordered_if_it_fits x y k rs (Ok v) o f c = still_ordered x y k rs o (subst Canonical c.here f) c
+pub ordered_if_it_fits : {X : Type 0} (x y : Chains) (k : ℕ) (rs : List Span) (r : Result X StoreRefusal) → Ordered x → Canonical rs → ChangedIfItFits x y k rs r → Ordered y
+ordered_if_it_fits x y k rs (Ok v) o f c = still_ordered x y k rs o f c
 ordered_if_it_fits x y k rs (Err e) o f c = subst Ordered (sym c.1) o
 
 pub same_room : {X : Type 0} (x y : Chains) (k : ℕ) (rs : List Span) (r : Result X StoreRefusal) → ChangedIfItFits x y k rs r → vec_len y.cells ≡ vec_len x.cells

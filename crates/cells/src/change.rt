@@ -1,11 +1,12 @@
 // A range put into a set's chain, and taken out of it.
 ghost use Rattle.std.specs.Prelude.{◌≡◌, ℕ, ◌+◌, ◌-◌, ◌<◌, ◌≤◌, min, max, true, false, [], ◌∷◌, ◌++◌, length, take, drop, if◌then◌else◌, vec_len, nat_lt};
-ghost use Rattle.store.specs.Ranges.{Canonical, apart, with_range, without_range};
+ghost use Rattle.store.specs.Ranges.{apart, with_range, without_range};
 ghost use Rattle.cells.specs.Links.{cell};
 ghost use Rattle.cells.specs.Chains.{ranges_of, free_of, Stands, Follow, Changed, ChangedIfItFits};
 ghost use Rattle.cells.specs.Places.{one_or_none};
 
 use crate::cell::Cell;
+use crate::cells_store::CellStore;
 use crate::chains::{Chain, Chains, Gap, Run};
 use store::{COUNTERS, Range, StoreRefusal};
 
@@ -41,13 +42,11 @@ fn part_above(cell: Cell, high: u64) -> Option<(u64, u64)>
     (high < cell.high).then(|| (high + 1, cell.high))
 }
 
-impl Chains {
+impl CellStore {
     /// Puts the range's IDs into the chain; refused as full where that takes more cells than there are. A range that begins at the last range or behind it
     /// is put in without a walk.
-    pub(crate) fn put(&mut self, chain: Chain, range: Range) -> Result<(), StoreRefusal>
-        requires { Canonical (ranges_of self.old chain.number) }
-        ensures order { Canonical (ranges_of self.new chain.number) }
-        ensures changed { ChangedIfItFits self.old self.new chain.number (with_range range.low range.high (ranges_of self.old chain.number)) result }
+    pub(crate) fn put_in(&mut self, chain: Chain, range: Range) -> Result<(), StoreRefusal>
+        ensures { ChangedIfItFits self.old.chains self.new.chains chain.number (with_range range.low range.high (ranges_of self.old.chains chain.number)) result }
     {
         if self.grow_last(chain, range) {
             return Ok(());
@@ -55,30 +54,48 @@ impl Chains {
         let low = adjoining_below(range.low());
         let high = adjoining_above(range.high());
         let run = self.meeting(chain, low, high);
-        let joined = self.joined(run, range);
-        self.replace(chain, run, Some(joined), None)
+        let joined = self.chains.joined(run, range);
+        self.chains.replace(chain, run, Some(joined), None)
     }
 
     // Puts a range that begins in the last range of the chain, or right behind it, into that; whether it begins there.
     fn grow_last(&mut self, chain: Chain, range: Range) -> bool
-        requires { Canonical (ranges_of self.old chain.number) }
-        ensures order { result ≡ true → Canonical (ranges_of self.new chain.number) }
-        ensures grown { result ≡ true → Changed self.old self.new chain.number (with_range range.low range.high (ranges_of self.old chain.number)) }
+        ensures grown { result ≡ true → Changed self.old.chains self.new.chains chain.number (with_range range.low range.high (ranges_of self.old.chains chain.number)) }
         ensures same { result ≡ false → self.new ≡ self.old }
     {
-        let ends = self.ends[chain.number];
+        let ends = self.chains.ends[chain.number];
         if ends.count == 0 {
             return false;
         }
-        let last = self.cells[ends.last];
+        let last = self.chains.cells[ends.last];
         let low = range.low();
         if low < last.low || last.high < adjoining_below(low) {
             return false;
         }
-        self.set_last_high(chain, last.high.max(range.high()));
+        self.chains
+            .set_last_high(chain, last.high.max(range.high()));
         true
     }
 
+    /// Takes the range's IDs out of the chain; refused as full where that takes more cells than there are.
+    pub(crate) fn take_from(&mut self, chain: Chain, range: Range) -> Result<(), StoreRefusal>
+        ensures { ChangedIfItFits self.old.chains self.new.chains chain.number (without_range range.low range.high (ranges_of self.old.chains chain.number)) result }
+    {
+        let low = range.low();
+        let high = range.high();
+        let run = self.meeting(chain, low, high);
+        if run.ends.count == 0 {
+            return Ok(());
+        }
+        let first = self.chains.cells[run.ends.first];
+        let last = self.chains.cells[run.ends.last];
+        let lower = part_below(first, low);
+        let upper = part_above(last, high);
+        self.chains.replace(chain, run, lower, upper)
+    }
+}
+
+impl Chains {
     // One range for the range and the cells that it meets.
     fn joined(&self, run: Run, range: Range) -> (u64, u64)
         requires first { 0 < run.ends.count → run.ends.first < vec_len self.now.cells }
@@ -94,25 +111,6 @@ impl Chains {
         let first = self.cells[run.ends.first];
         let last = self.cells[run.ends.last];
         (low.min(first.low), high.max(last.high))
-    }
-
-    /// Takes the range's IDs out of the chain; refused as full where that takes more cells than there are.
-    pub(crate) fn take(&mut self, chain: Chain, range: Range) -> Result<(), StoreRefusal>
-        requires { Canonical (ranges_of self.old chain.number) }
-        ensures order { Canonical (ranges_of self.new chain.number) }
-        ensures changed { ChangedIfItFits self.old self.new chain.number (without_range range.low range.high (ranges_of self.old chain.number)) result }
-    {
-        let low = range.low();
-        let high = range.high();
-        let run = self.meeting(chain, low, high);
-        if run.ends.count == 0 {
-            return Ok(());
-        }
-        let first = self.cells[run.ends.first];
-        let last = self.cells[run.ends.last];
-        let lower = part_below(first, low);
-        let upper = part_above(last, high);
-        self.replace(chain, run, lower, upper)
     }
 
     // Up to two ranges in the place of those of the run.

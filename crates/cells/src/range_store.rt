@@ -46,11 +46,11 @@ impl RangeStore for CellStore {
     ghost limited = { Prim.search rules };
 
     fn put(&mut self, set: SetName, range: Range) -> Result<(), StoreRefusal> {
-        self.chains.put(Chain::from(set), range)
+        self.put_in(Chain::from(set), range)
     }
 
     fn take(&mut self, set: SetName, range: Range) -> Result<(), StoreRefusal> {
-        self.chains.take(Chain::from(set), range)
+        self.take_from(Chain::from(set), range)
     }
 
     fn move_set(&mut self, from: SetName, to: SetName) {
@@ -66,11 +66,11 @@ impl RangeStore for CellStore {
     }
 
     fn holds(&self, set: SetName, id: u64) -> bool {
-        self.chains.holds(Chain::from(set), id)
+        self.holds_in(Chain::from(set), id)
     }
 
     fn next(&self, set: SetName, n: u64) -> Option<(u64, u64)> {
-        self.chains.next(Chain::from(set), n)
+        self.next_in(Chain::from(set), n)
     }
 
     fn total(&self) -> usize {

@@ -1,10 +1,11 @@
 // Walks along a chain, and what is asked of a set.
 ghost use Rattle.std.specs.Prelude.{◌≡◌, ℕ, ◌<◌, ◌≤◌, true, false};
-ghost use Rattle.store.specs.Ranges.{Canonical, has, next_range};
+ghost use Rattle.store.specs.Ranges.{has, next_range};
 ghost use Rattle.cells.specs.Chains.{count_of, ranges_of, cell_at, Stands, Follow, GoesOn};
 ghost use Rattle.cells.specs.Places.{EndingBelow, BeginningWithin};
 
 use crate::cell::{Cell, Ends};
+use crate::cells_store::CellStore;
 use crate::chains::{Chain, Chains, FRONT, Gap, Run};
 
 /// A gap, and the cell behind it; `at` is no cell at the end of the chain.
@@ -15,33 +16,6 @@ pub struct Spot {
 }
 
 impl Chains {
-    /// The gap behind the ranges that end below `n`. Behind the last range it is found without a walk.
-    fn ending_below(&self, chain: Chain, n: u64) -> Spot
-        requires { Canonical (ranges_of self.now chain.number) }
-        ensures stands { Stands self.now chain.number result.gap }
-        ensures on { GoesOn self.now chain.number result.gap.place result.at }
-        ensures below { EndingBelow (ranges_of self.now chain.number) n result.gap.place }
-    {
-        let ends = self.ends[chain.number];
-        if ends.count > 0 {
-            let last = self.cells[ends.last];
-            if last.high < n {
-                return Spot {
-                    gap: Gap {
-                        place: ends.count,
-                        before: Some(ends.last),
-                    },
-                    at: last.next,
-                };
-            }
-        }
-        let front = Spot {
-            gap: FRONT,
-            at: ends.first,
-        };
-        self.walk_while(chain, front, |cell| cell.high < n)
-    }
-
     // Steps over the cells from the spot on, for as long as they pass.
     fn walk_while<F: Fn(Cell) -> bool>(&self, chain: Chain, from: Spot, passes: F) -> Spot
         requires callable { F.IsAlwaysCallable passes }
@@ -69,17 +43,44 @@ impl Chains {
         }
         spot
     }
+}
+
+impl CellStore {
+    /// The gap behind the ranges that end below `n`. Behind the last range it is found without a walk.
+    fn ending_below(&self, chain: Chain, n: u64) -> Spot
+        ensures stands { Stands self.now.chains chain.number result.gap }
+        ensures on { GoesOn self.now.chains chain.number result.gap.place result.at }
+        ensures below { EndingBelow (ranges_of self.now.chains chain.number) n result.gap.place }
+    {
+        let ends = self.chains.ends[chain.number];
+        if ends.count > 0 {
+            let last = self.chains.cells[ends.last];
+            if last.high < n {
+                return Spot {
+                    gap: Gap {
+                        place: ends.count,
+                        before: Some(ends.last),
+                    },
+                    at: last.next,
+                };
+            }
+        }
+        let front = Spot {
+            gap: FRONT,
+            at: ends.first,
+        };
+        self.chains.walk_while(chain, front, |cell| cell.high < n)
+    }
 
     /// The cells whose ranges meet low..high.
     pub(crate) fn meeting(&self, chain: Chain, low: u64, high: u64) -> Run
-        requires { Canonical (ranges_of self.now chain.number) }
-        ensures stands { Stands self.now chain.number result.gap }
-        ensures follow { Follow self.now chain.number result }
-        ensures below { EndingBelow (ranges_of self.now chain.number) low result.gap.place }
-        ensures met { BeginningWithin (ranges_of self.now chain.number) high result.gap.place result.ends.count }
+        ensures stands { Stands self.now.chains chain.number result.gap }
+        ensures follow { Follow self.now.chains chain.number result }
+        ensures below { EndingBelow (ranges_of self.now.chains chain.number) low result.gap.place }
+        ensures met { BeginningWithin (ranges_of self.now.chains chain.number) high result.gap.place result.ends.count }
     {
         let from = self.ending_below(chain, low);
-        let to = self.walk_while(chain, from, |cell| cell.low <= high);
+        let to = self.chains.walk_while(chain, from, |cell| cell.low <= high);
         Run {
             gap: from.gap,
             ends: Ends {
@@ -91,24 +92,22 @@ impl Chains {
     }
 
     /// The lowest range of the chain whose high end is not below `n`.
-    pub(crate) fn next(&self, chain: Chain, n: u64) -> Option<(u64, u64)>
-        requires { Canonical (ranges_of self.now chain.number) }
-        ensures { result ≡ next_range (ranges_of self.now chain.number) n }
+    pub(crate) fn next_in(&self, chain: Chain, n: u64) -> Option<(u64, u64)>
+        ensures { result ≡ next_range (ranges_of self.now.chains chain.number) n }
     {
         let found = self.ending_below(chain, n);
-        if found.gap.place == self.ends[chain.number].count {
+        if found.gap.place == self.chains.ends[chain.number].count {
             return None;
         }
-        let cell = self.cells[found.at];
+        let cell = self.chains.cells[found.at];
         Some((cell.low, cell.high))
     }
 
     /// Whether the ID is in a range of the chain.
-    pub(crate) fn holds(&self, chain: Chain, id: u64) -> bool
-        requires { Canonical (ranges_of self.now chain.number) }
-        ensures { result ≡ has (ranges_of self.now chain.number) id }
+    pub(crate) fn holds_in(&self, chain: Chain, id: u64) -> bool
+        ensures { result ≡ has (ranges_of self.now.chains chain.number) id }
     {
-        match self.next(chain, id) {
+        match self.next_in(chain, id) {
             Some((low, _)) => low <= id,
             None => false,
         }

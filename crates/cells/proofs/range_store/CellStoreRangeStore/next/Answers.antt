@@ -9,11 +9,8 @@ use Rattle.cells.specs.Chains.{ranges_of}
 use Rattle.cells.specs.Meanings.{canonical}
 use Rattle.cells.proofs.range_store.CellStoreRangeStore.next.Goals as goal
 
-pub next-requires : goal.next-requires
-next-requires c = let x = c.args.self.now in canonical x.chains x.ordered c.from.result.number c.from.result.small
-
 pub returns : goal.returns
 returns c =
     let x = c.args.self.now in
-    let is = c.next.ensures ∙ ap (λ k. next_range (ranges_of x.chains k) c.args.n) c.from.ensures in
+    let is = c.next_in.ensures ∙ ap (λ k. next_range (ranges_of x.chains k) c.args.n) c.from.ensures in
     record { list = is; members = subst (LowestOrNone (meaning x c.args.set) c.args.n) (sym is) (next_is_lowest 0 (meaning x c.args.set) c.args.n (canonical x.chains x.ordered (number c.args.set) (number_small c.args.set))) }

@@ -1,42 +1,42 @@
 -- What is left of the ranges that the range meets.
 use Rattle.std.proofs.Common.{◌+◌, ◌-◌, ◌<◌, cond, ltb, [], ◌∷◌, sym, ap, ◌∙◌, subst, arith}
 use Rattle.store.specs.Ids.{Lawful}
+use Rattle.store.specs.Ranges.{without_range}
 use Rattle.store.proofs.Removing.{removing_keeps_order}
-use Rattle.cells.specs.Chains.{ranges_of}
+use Rattle.cells.specs.Chains.{ranges_of, ChangedIfItFits}
 use Rattle.cells.specs.Places.{one_or_none, EndingBelow, BeginningWithin}
 use Rattle.cells.specs.Held.{read}
-use Rattle.cells.proofs.Puts.{first_cell, last_cell, take_changes, takes_nothing, order_if_it_fits}
-use Rattle.cells.proofs.chains.Chains.take.Goals as goal
+use Rattle.cells.specs.Meanings.{canonical, ordered_if_it_fits}
+use Rattle.cells.proofs.Puts.{first_cell, last_cell, take_changes, takes_nothing}
+use Rattle.cells.proofs.cells_store.CellStore.take_from.Goals as goal
+use Rattle.cells.proofs.cells_store.CellStore.take_from.Goals.{After-replace}
 
 pub returns-then-run-eq0 : goal.returns-then-run-eq0
 returns-then-run-eq0 c =
-    let x = c.args.self.now in
+    let x = c.args.self.now.chains in
     let k = c.args.chain.number in
     let g = c.args.range in
     let r = c.meeting-run.result in
     let e = c.meeting-run.ensures in
     let law = subst (λ n. Lawful n g.high) c.low-low.ensures.value c.low-low.ensures.lawful in
-    record {
-      order = c.requires;
-      changed = takes_nothing x k c.requires g.low g.high r.gap.place r.ends.count law
-          (subst (λ n. EndingBelow (ranges_of x k) n r.gap.place) c.low-low.ensures.value e.below) (subst (λ n. BeginningWithin (ranges_of x k) n r.gap.place r.ends.count) c.high-high.ensures.value e.met) c.if-run-eq0.true;
-    }
+    takes_nothing x k (canonical c.args.self.now.chains c.args.self.now.ordered c.args.chain.number c.args.chain.small) g.low g.high r.gap.place r.ends.count law
+    (subst (λ n. EndingBelow (ranges_of x k) n r.gap.place) c.low-low.ensures.value e.below) (subst (λ n. BeginningWithin (ranges_of x k) n r.gap.place r.ends.count) c.high-high.ensures.value e.met) c.if-run-eq0.true
 
 pub index-first-requires : goal.index-first-requires
 index-first-requires c =
     let r = c.meeting-run.result in
     let e = c.meeting-run.ensures in
-    first_cell c.args.self.now c.args.chain.number c.args.chain.small r e.follow (omega (arith, c.if-run-eq0.false))
+    first_cell c.args.self.now.chains c.args.chain.number c.args.chain.small r e.follow (omega (arith, c.if-run-eq0.false))
 
 pub index-last-requires : goal.index-last-requires
 index-last-requires c =
     let r = c.meeting-run.result in
     let e = c.meeting-run.ensures in
-    last_cell c.args.self.now c.args.chain.number c.args.chain.small r e.follow (omega (arith, c.if-run-eq0.false))
+    last_cell c.args.self.now.chains c.args.chain.number c.args.chain.small r e.follow (omega (arith, c.if-run-eq0.false))
 
-pub returns : goal.returns
-returns c =
-    let x = c.args.self.now in
+done : (c : After-replace) → ChangedIfItFits c.args.self.now.chains c.replace.new.self c.args.chain.number (without_range c.args.range.low c.args.range.high (ranges_of c.args.self.now.chains c.args.chain.number)) c.replace.result
+done c =
+    let x = c.args.self.now.chains in
     let y = c.replace.new.self in
     let k = c.args.chain.number in
     let g = c.args.range in
@@ -46,10 +46,19 @@ returns c =
     let law = subst (λ n. Lawful n g.high) c.low-low.ensures.value c.low-low.ensures.lawful in
     let first = read x r.ends.first c.index-first.result.now (first_cell x k c.args.chain.small r e.follow some) c.index-first.ensures in
     let last = read x r.ends.last c.index-last.result.now (last_cell x k c.args.chain.small r e.follow some) c.index-last.ensures in
-    let changed = take_changes x k c.args.chain.small r e.follow y c.requires g.low g.high law c.replace.result
+    take_changes x k c.args.chain.small r e.follow y (canonical c.args.self.now.chains c.args.self.now.ordered c.args.chain.number c.args.chain.small) g.low g.high law c.replace.result
     (one_or_none c.part_below-lower.result) (one_or_none c.part_above-upper.result) some
     (subst (λ n. EndingBelow (ranges_of x k) n r.gap.place) c.low-low.ensures.value e.below) (subst (λ n. BeginningWithin (ranges_of x k) n r.gap.place r.ends.count) c.high-high.ensures.value e.met)
     (c.part_below-lower.ensures ∙ ap (λ n. cond (ltb c.index-first.result.now.low n) ((c.index-first.result.now.low, n - 1) ∷ []) []) c.low-low.ensures.value ∙ ap (λ z. cond (ltb z.low g.low) ((z.low, g.low - 1) ∷ []) []) (sym first))
     (c.part_above-upper.ensures ∙ ap (λ n. cond (ltb n c.index-last.result.now.high) ((n + 1, c.index-last.result.now.high) ∷ []) []) c.high-high.ensures.value ∙ ap (λ z. cond (ltb g.high z.high) ((g.high + 1, z.high) ∷ []) []) (sym last))
-    c.replace.ensures in
-    record { order = order_if_it_fits x y k _ c.replace.result c.requires (removing_keeps_order 0 g.low g.high (ranges_of x k) g.rising c.requires) changed; changed = changed }
+    c.replace.ensures
+
+pub invariant_of-self : goal.invariant_of-self
+invariant_of-self c =
+    let x = c.args.self.now.chains in
+    let k = c.args.chain.number in
+    let g = c.args.range in
+    record { ordered = ordered_if_it_fits x c.replace.new.self k _ c.replace.result c.args.self.now.ordered (removing_keeps_order 0 g.low g.high (ranges_of x k) g.rising (canonical c.args.self.now.chains c.args.self.now.ordered c.args.chain.number c.args.chain.small)) (done (goal.at.invariant_of-self c).After-replace) }
+
+pub returns : goal.returns
+returns c = done (goal.at.returns c).After-replace
