@@ -10,7 +10,7 @@ use Rattle.cells.specs.declared.chains.Run.{Run}
 use Rattle.cells.specs.Links.{cell, ends, Linked}
 use Rattle.cells.specs.Chains.{numbers_of, count_of, ranges_of, free_of, before_place, Stands, Follow, Changed}
 use Rattle.cells.specs.Segs.{chain_at, spans-length}
-use Rattle.cells.specs.Relinks.{Made, inside, first_inside, last_inside, sum_one, sum_two}
+use Rattle.cells.specs.Relinks.{Made, inside, first_inside, last_inside, sum_two}
 
 pub long : (x : Chains) → length (vec_items x.cells) ≡ vec_len x.cells
 long x = sym x.cells.ok.0
@@ -24,9 +24,6 @@ module _ (x : Chains) (k : ℕ) (h : k < 12) where
 
   pub ranges_many : length (ranges_of x k) ≡ count_of x k
   ranges_many = spans-length (vec_items x.cells) (numbers_of x k) ∙ many
-
-  pub count_fits : count_of x k ≤ vec_len x.cells
-  count_fits = omega (arith, sum_one x.ends k (omega (arith, x.twelve)), x.whole)
 
   pub first_fits : 0 < count_of x k → (ends x.ends k).first < vec_len x.cells
   first_fits p = omega (arith, first_inside (vec_items x.cells) x.ends k x.running h p, long x)
