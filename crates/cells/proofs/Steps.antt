@@ -1,13 +1,15 @@
 -- Steps along a chain, and the ranges of its cells by their places.
-use Rattle.std.proofs.Common.{◌≡◌, ℕ, zero, suc, ◌+◌, ◌-◌, ◌<◌, List, [], ◌∷◌, ◌++◌, length, get_or, take, drop, Some, None, vec_items, vec_len, sym, refl, ap, ◌∙◌, subst, arith}
+use Rattle.std.proofs.Common.{◌≡◌, ℕ, zero, suc, ◌+◌, ◌-◌, ◌<◌, ◌≤◌, ⊎_elim, List, [], ◌∷◌, ◌++◌, length, get_or, take, drop, Some, None, vec_items, vec_len, sym, refl, ap, ◌∙◌, subst, arith}
+use Rattle.std.proofs.lemmas.Bool.{and_parts, leb-true, le-leb, cases_eq, cases_lt}
 use Rattle.std.proofs.lemmas.List.{get_or_read, drop_more, drop_all}
 use Rattle.cells.specs.declared.cell.Cell.{Cell}
 use Rattle.cells.specs.declared.chains.Chains.{Chains}
-use Rattle.cells.specs.Links.{cell, ends, path, final, span, spans}
+use Rattle.cells.specs.Links.{cell, ends, path, runs, final, span, spans}
 use Rattle.cells.specs.Chains.{numbers_of, count_of, ranges_of, cell_at, before_place, Stands, GoesOn, Changed}
 use Rattle.cells.specs.Places.{at_place}
 use Rattle.cells.specs.Relinks.{Made}
-use Rattle.cells.specs.Held.{long, many, ranges_many, place_fits, changed}
+use Rattle.cells.specs.Segs.{Seg, chain_at, seg_at, parts_before}
+use Rattle.cells.specs.Held.{long, linked, many, last_fits, read, ranges_many, place_fits, changed}
 
 final_place : (d : ℕ) (l : List ℕ) → 0 < length l → get_or l (length l - 1) 0 ≡ final d l
 final_place d [] h = absurd (omega arith)
@@ -55,7 +57,13 @@ module _ (x y : Chains) (k : ℕ) (h : k < 11) (pos : 0 < count_of x k) (l : Lis
 -- the number that so many steps from the first cell lead to
 module _ (x : Chains) (k : ℕ) (h : k < 11) where
   pub at_start : GoesOn x k 0 (ends x.ends k).first
-  at_start = record { inside = omega arith; rest = let e : count_of x k ≡ count_of x k - 0 = omega arith in ap (λ n. path (vec_items x.cells) n (ends x.ends k).first) e }
+  at_start =
+      let e : count_of x k ≡ count_of x k - 0 = omega arith in
+      record {
+        inside = omega arith;
+        rest = ap (λ n. path (vec_items x.cells) n (ends x.ends k).first) e;
+        stops = ap (λ n. runs (vec_items x.cells) n (ends x.ends k).first) (sym e) ∙ x.running k (omega arith);
+      }
 
   module _ (i at : ℕ) (w : GoesOn x k i at) (l : i < count_of x k) where
     here : drop i (numbers_of x k) ≡ at ∷ path (vec_items x.cells) (count_of x k - (i + 1)) (cell (vec_items x.cells) at).next
@@ -79,7 +87,13 @@ module _ (x : Chains) (k : ℕ) (h : k < 11) where
       read_at = sym (get_or_read (vec_items x.cells) at c (omega (arith, at_fits, long x)) r _)
 
       pub step : GoesOn x k (i + 1) c.next
-      step = record { inside = omega arith; rest = rest_is ∙ ap (λ z. path (vec_items x.cells) (count_of x k - (i + 1)) z.next) read_at }
+      step =
+          let e : count_of x k - i ≡ suc (count_of x k - (i + 1)) = omega arith in
+          record {
+            inside = omega arith;
+            rest = rest_is ∙ ap (λ z. path (vec_items x.cells) (count_of x k - (i + 1)) z.next) read_at;
+            stops = ap (λ z. runs (vec_items x.cells) (count_of x k - (i + 1)) z.next) (sym read_at) ∙ (and_parts _ _ (ap (λ n. runs (vec_items x.cells) n at) (sym e) ∙ w.stops)).1;
+          }
 
       pub range_is : at_place (ranges_of x k) i ≡ (c.low, c.high)
       range_is = range_at x k h i at c l at_is read_at
@@ -90,11 +104,34 @@ module _ (x : Chains) (k : ℕ) (h : k < 11) where
       pub stand_behind : Stands x k (record { place = i + 1; before = Some at })
       stand_behind = record { inside = omega arith; behind = ap Some (sym at_is) ∙ sym (before_next (numbers_of x k) i) }
 
+  -- where no cell is behind a gap, it is the last one
+  pub some_behind : (i at : ℕ) → GoesOn x k i at → at < vec_len x.cells → i < count_of x k
+  some_behind i at w l = ⊎_elim (λ (e : i ≡ count_of x k). absurd (past e)) (λ ne. omega (arith, w.inside)) (cases_eq i (count_of x k))
+    where
+      past : i ≡ count_of x k → ⊥
+      past e =
+          let z : count_of x k - i ≡ 0 = omega arith in
+          let over : length (vec_items x.cells) ≤ at = leb-true _ _ (ap (λ n. runs (vec_items x.cells) n at) (sym z) ∙ w.stops) in
+          omega (arith, over, long x)
+
+  pub none_behind : (i at : ℕ) → GoesOn x k i at → vec_len x.cells ≤ at → i ≡ count_of x k
+  none_behind i at w l = ⊎_elim (λ (lt : i < count_of x k). absurd (omega (arith, at_fits i at w lt))) (λ ge. omega (arith, w.inside)) (cases_lt i (count_of x k))
+
   -- the gap behind the last cell
   pub at_last : 0 < count_of x k → (c : Cell) → c ≡ get_or (vec_items x.cells) (ends x.ends k).last c → GoesOn x k (count_of x k) c.next
   at_last p c r =
       let z : count_of x k - count_of x k ≡ 0 = omega arith in
-      record { inside = omega arith; rest = drop_all (count_of x k) (numbers_of x k) (omega (arith, many x k (omega arith))) ∙ ap (λ n. path (vec_items x.cells) n c.next) (sym z) }
+      let none = drop_all (count_of x k) (numbers_of x k) (omega (arith, many x k (omega arith))) in
+      let chain = chain_at (vec_items x.cells) x.ends k (linked x) (omega arith) in
+      let before = take (count_of x k - 1) (numbers_of x k) in
+      let is : numbers_of x k ≡ before ++ (ends x.ends k).last ∷ [] = parts_before (numbers_of x k) (count_of x k) _ p (omega (arith, many x k (omega arith))) (last_at x k h p) ∙ ap (λ t. before ++ (ends x.ends k).last ∷ t) none in
+      let cut = seg_at (vec_items x.cells) (ends x.ends k).first chain.stop (ends x.ends k).last before [] (subst (λ l. Seg (vec_items x.cells) (ends x.ends k).first l chain.stop) is chain.seg) in
+      let next : (cell (vec_items x.cells) (ends x.ends k).last).next ≡ c.next = ap (λ z. z.next) (read x _ c (last_fits x k (omega arith) p) r) in
+      record {
+        inside = omega arith;
+        rest = none ∙ ap (λ n. path (vec_items x.cells) n c.next) (sym z);
+        stops = ap (λ n. runs (vec_items x.cells) n c.next) z ∙ le-leb _ _ (omega (arith, chain.over, cut.2, next));
+      }
 
   pub behind_last : 0 < count_of x k → Stands x k (record { place = count_of x k; before = Some (ends x.ends k).last })
   behind_last p =

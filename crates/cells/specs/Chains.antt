@@ -1,9 +1,9 @@
 -- What the chains hold, where a gap stands in one of them, and what a change of one leaves.
-use Rattle.std.specs.Prelude.{◌≡◌, ℕ, zero, suc, ◌+◌, ◌-◌, ◌<◌, ◌≤◌, List, length, drop, Some, None, Option, vec_items, vec_len, Result, MatchResult, ◌≢◌, slice_index}
+use Rattle.std.specs.Prelude.{◌≡◌, ℕ, true, zero, suc, ◌+◌, ◌-◌, ◌<◌, ◌≤◌, List, length, drop, Some, None, Option, vec_items, vec_len, Result, MatchResult, ◌≢◌, slice_index}
 use Rattle.store.specs.Ranges.{Span}
 use Rattle.store.specs.Refusals.{listed, store_full}
 use Rattle.store.specs.declared.refusal.StoreRefusal.{StoreRefusal}
-use Rattle.cells.specs.Links.{cell, ends, path, numbers, spans}
+use Rattle.cells.specs.Links.{cell, ends, path, runs, numbers, spans}
 use Rattle.cells.specs.declared.cell.Cell.{Cell}
 use Rattle.cells.specs.declared.chains.Chains.{Chains}
 use Rattle.cells.specs.declared.chains.Gap.{Gap}
@@ -42,10 +42,11 @@ pub record Follow (x : Chains) (k : ℕ) (run : Run) : Type 0 where
   pub begins : 0 < run.ends.count → slice_index (numbers_of x k) run.gap.place ≡ run.ends.first
   pub ends_in : 0 < run.ends.count → slice_index (numbers_of x k) (run.gap.place + run.ends.count - 1) ≡ run.ends.last
 
--- what stands behind a gap: from `at` on goes the rest of the chain
+-- what stands behind a gap: from `at` on goes the rest of the chain, and no more
 pub record GoesOn (x : Chains) (k place at : ℕ) : Type 0 where
   pub inside : place ≤ count_of x k
   pub rest : drop place (numbers_of x k) ≡ path (vec_items x.cells) (count_of x k - place) at
+  pub stops : runs (vec_items x.cells) (count_of x k - place) at ≡ true
 
 -- one chain has these ranges now, and the other sets' chains have what they had
 pub record Changed (before after : Chains) (k : ℕ) (wanted : List Span) : Type 0 where

@@ -96,10 +96,7 @@ impl CellStore {
         ensures { result ≡ next_range (ranges_of self.now.chains chain.number) n }
     {
         let found = self.ending_below(chain, n);
-        if found.gap.place == self.chains.ends[chain.number].count {
-            return None;
-        }
-        let cell = self.chains.cells[found.at];
+        let cell = self.chains.cells.get(found.at)?;
         Some((cell.low, cell.high))
     }
 

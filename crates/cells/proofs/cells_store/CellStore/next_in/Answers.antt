@@ -1,26 +1,28 @@
 -- The range behind the gap, if there is one.
-use Rattle.std.proofs.Common.{◌<◌, Some, sym, ap, ◌∙◌, arith}
+use Rattle.std.proofs.Common.{◌<◌, get_or, Some, sym, ap, ◌∙◌, arith}
 use Rattle.cells.specs.Chains.{count_of, ranges_of}
 use Rattle.cells.specs.Held.{ranges_many}
 use Rattle.cells.specs.Finds.{next_none, next_some}
-use Rattle.cells.proofs.Steps.{at_fits, range_is}
+use Rattle.cells.proofs.Steps.{some_behind, none_behind, range_is}
 use Rattle.cells.proofs.cells_store.CellStore.next_in.Goals as goal
 
-pub returns-then-found-self : goal.returns-then-found-self
-returns-then-found-self c =
+pub returns-in_err-cell : goal.returns-in_err-cell
+returns-in_err-cell c =
     let x = c.args.self.now.chains in
     let k = c.args.chain.number in
-    sym (next_none (ranges_of x k) c.args.n c.ending_below-found.result.gap.place c.ending_below-found.ensures.below (c.if-found-self.true ∙ sym (ranges_many x k (omega (arith, c.args.chain.small)))))
-
-pub index-cell-requires : goal.index-cell-requires
-index-cell-requires c =
-    at_fits c.args.self.now.chains c.args.chain.number c.args.chain.small c.ending_below-found.result.gap.place c.ending_below-found.result.at c.ending_below-found.ensures.on (omega (arith, c.ending_below-found.ensures.on.inside, c.if-found-self.false))
+    let small = c.args.chain.small in
+    let f = c.ending_below-found in
+    let e = none_behind x k small f.result.gap.place f.result.at f.ensures.on (omega (arith, c.in_err-cell.ensures.lookup.3, c.deref.ensures.len)) in
+    c.from_residual.ensures ∙ sym (next_none (ranges_of x k) c.args.n f.result.gap.place f.ensures.below (e ∙ sym (ranges_many x k (omega (arith, small)))))
 
 pub returns : goal.returns
 returns c =
     let x = c.args.self.now.chains in
     let k = c.args.chain.number in
+    let small = c.args.chain.small in
     let f = c.ending_below-found in
-    let l : f.result.gap.place < count_of x k = omega (arith, f.ensures.on.inside, c.if-found-self.false) in
-    ap Some (sym (range_is c.args.self.now.chains c.args.chain.number c.args.chain.small f.result.gap.place f.result.at f.ensures.on l c.index-cell.result.now c.index-cell.ensures))
-    ∙ sym (next_some (ranges_of x k) c.args.n f.result.gap.place f.ensures.below (omega (arith, ranges_many x k (omega (arith, c.args.chain.small)))))
+    let found = c.in_ok-cell.ensures.lookup in
+    let cell = c.in_ok-cell.cell.now in
+    let l : f.result.gap.place < count_of x k = some_behind x k small f.result.gap.place f.result.at f.ensures.on (omega (arith, found.3.0, c.deref.ensures.len)) in
+    ap Some (sym (range_is x k small f.result.gap.place f.result.at f.ensures.on l cell (found.1 ∙ ap (λ t. get_or t f.result.at cell) c.deref.ensures.value)))
+    ∙ sym (next_some (ranges_of x k) c.args.n f.result.gap.place f.ensures.below (omega (arith, ranges_many x k (omega (arith, small)))))
