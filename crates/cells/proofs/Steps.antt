@@ -1,5 +1,5 @@
 -- Steps along a chain, and the ranges of its cells by their places.
-use Rattle.std.proofs.Common.{◌≡◌, ℕ, zero, suc, ◌+◌, ◌-◌, ◌<◌, ◌≤◌, ⊎_elim, List, [], ◌∷◌, ◌++◌, length, get_or, take, drop, Some, None, vec_items, vec_len, sym, refl, ap, ◌∙◌, subst, arith}
+use Rattle.std.proofs.Common.{◌≡◌, ℕ, zero, suc, ◌+◌, ◌-◌, ◌<◌, ◌≤◌, ⊎_elim, List, [], ◌∷◌, ◌++◌, length, get_or, take, drop, Some, vec_items, vec_len, sym, refl, ap, ◌∙◌, subst, arith}
 use Rattle.std.proofs.lemmas.Bool.{and_parts, leb-true, le-leb, cases_eq, cases_lt}
 use Rattle.std.proofs.lemmas.List.{get_or_read, drop_more, drop_all}
 use Rattle.cells.specs.declared.cell.Cell.{Cell}
@@ -137,7 +137,3 @@ module _ (x : Chains) (k : ℕ) (h : k < 11) where
   behind_last p =
       let e : count_of x k - 1 + 1 ≡ count_of x k = omega arith in
       record { inside = omega arith; behind = ap Some (sym (last_at x k h p)) ∙ sym (before_next (numbers_of x k) (count_of x k - 1)) ∙ ap (before_place (numbers_of x k)) e }
-
--- no cell is before the front
-pub stand_front : (x : Chains) (k : ℕ) → Stands x k (record { place = 0; before = None })
-stand_front x k = record { inside = omega arith; behind = refl }

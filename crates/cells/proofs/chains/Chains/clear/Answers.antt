@@ -3,18 +3,16 @@ use Rattle.std.proofs.Common.{◌≡◌, ◌+◌, ◌-◌, get_or, ap, ◌∙◌
 use Rattle.std.proofs.lemmas.List.{drop_all}
 use Rattle.cells.specs.Chains.{numbers_of, count_of, ranges_of, Changed}
 use Rattle.cells.specs.Held.{ranges_many}
-use Rattle.cells.proofs.Steps.{first_at, last_at, stand_front}
+use Rattle.cells.proofs.Steps.{first_at, last_at}
 use Rattle.cells.proofs.chains.Chains.clear.Goals as goal
 
-pub remove-requires : goal.remove-requires
-remove-requires c =
+pub remove-requires-clause-follow : goal.remove-requires-clause-follow
+remove-requires-clause-follow c =
     let x = c.args.self.now in
     let k = c.args.chain.number in
+    let small = c.args.chain.small in
     let z : 0 + count_of x k - 1 ≡ count_of x k - 1 = omega arith in
-    record {
-      stands = stand_front x k;
-      follow = record { inside = omega arith; begins = λ p. first_at x k c.args.chain.small p; ends_in = λ p. ap (λ n. get_or (numbers_of x k) n 0) z ∙ last_at x k c.args.chain.small p };
-    }
+    record { inside = omega arith; begins = λ p. first_at x k small p; ends_in = λ p. ap (λ n. get_or (numbers_of x k) n 0) z ∙ last_at x k small p }
 
 pub returns : goal.returns
 returns c =

@@ -1,6 +1,5 @@
 -- The two chains change places.
-use Rattle.std.proofs.Common.{vec_items, refl, ap, ◌∙◌}
-use Rattle.cells.specs.Links.{spans}
+use Rattle.std.proofs.Common.{vec_items, ◌∙◌}
 use Rattle.cells.specs.Held.{linked, long}
 use Rattle.cells.proofs.Writes.{swapped}
 use Rattle.cells.proofs.chains.Chains.exchange.Goals as goal
@@ -10,9 +9,3 @@ invariant_of-self c =
     let x = c.args.self.now in
     let m = swapped (vec_items x.cells) x.ends c.args.one.number c.args.two.number (linked x) x.twelve c.args.one.small c.args.two.small c.requires in
     record { least = x.least; most = x.most; twelve = m.twelve; running = m.running; ending = m.ending; parted = m.parted; whole = m.whole ∙ long x }
-
-pub returns : goal.returns
-returns c =
-    let x = c.args.self.now in
-    let m = swapped (vec_items x.cells) x.ends c.args.one.number c.args.two.number (linked x) x.twelve c.args.one.small c.args.two.small c.requires in
-    record { len = refl; one = ap (spans (vec_items x.cells)) m.one; two = ap (spans (vec_items x.cells)) m.two; others = λ k h a b. ap (spans (vec_items x.cells)) (m.others k h a b) }

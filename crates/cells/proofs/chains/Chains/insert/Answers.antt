@@ -46,11 +46,8 @@ invariant_of-self c =
     let m = done (goal.at.invariant_of-self c).After-relink-next in
     record { least = omega (arith, x.least, c.relink-next.ensures.len); most = omega (arith, x.most, c.relink-next.ensures.len); twelve = m.twelve; running = m.running; ending = m.ending; parted = m.parted; whole = m.whole ∙ long x ∙ sym c.relink-next.ensures.len }
 
-pub returns : goal.returns
-returns c =
-    let m = done (goal.at.returns c).After-relink-next in
-    record {
-      changed = changed c.args.self.now _ c.args.chain.number _ _ _ m;
-      stands = still_stands c.args.self.now _ c.args.chain.number _ _ _ m c.args.gap _ c.args.chain.small refl c.requires.stands;
-      free = omega (arith, m.free, c.requires.room);
-    }
+pub returns-clause-changed : goal.returns-clause-changed
+returns-clause-changed c = changed c.args.self.now _ c.args.chain.number _ _ _ (done (goal.at.returns-clause-changed c).After-relink-next)
+
+pub returns-clause-stands : goal.returns-clause-stands
+returns-clause-stands c = still_stands c.args.self.now _ c.args.chain.number _ _ _ (done (goal.at.returns-clause-stands c).After-relink-next) c.args.gap _ c.args.chain.small refl c.requires.stands

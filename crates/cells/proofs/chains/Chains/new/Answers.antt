@@ -1,7 +1,7 @@
 -- All cells are free.
 use Rattle.std.proofs.Common.{◌≡◌, ℕ, ◌+◌, ◌<◌, length, vec_items, sym, refl, ◌∙◌, arith}
 use Rattle.cells.specs.Links.{cell}
-use Rattle.cells.proofs.Fresh.{fresh_running, fresh_ending, fresh_parted, fresh_sum, fresh_empty}
+use Rattle.cells.proofs.Fresh.{fresh_running, fresh_ending, fresh_parted, fresh_sum}
 use Rattle.cells.proofs.chains.Chains.new.Goals as goal
 use Rattle.cells.proofs.chains.Chains.new.Goals.{After-link_all}
 
@@ -28,8 +28,3 @@ invariant_of-result c =
       parted = fresh_parted v n (whole d) (some d) (next d);
       whole = fresh_sum 11 n ∙ c.len-n.ensures ∙ sym c.link_all.ensures.len;
     }
-
-pub returns : goal.returns
-returns c =
-    let d = (goal.at.returns c).After-link_all in
-    record { len = c.link_all.ensures.len; empty = fresh_empty (vec_items c.link_all.new.cells) c.len-n.result (whole d) (some d) (next d) }

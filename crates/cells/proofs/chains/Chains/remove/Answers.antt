@@ -9,17 +9,12 @@ use Rattle.cells.proofs.RemovesFirst.{cut, cut_end, cut_within, longer_from_none
 use Rattle.cells.proofs.chains.Chains.remove.Goals as goal
 use Rattle.cells.proofs.chains.Chains.remove.Goals.{Joined-free-eq0, then-set-ends, else-set-ends, then-free-eq0, else-free-eq0}
 
-pub returns-then-ends-eq0 : goal.returns-then-ends-eq0
-returns-then-ends-eq0 c =
-    let x = c.args.self.now in
-    let k = c.args.chain.number in
+pub returns-then-ends-eq0-clause-changed : goal.returns-then-ends-eq0-clause-changed
+returns-then-ends-eq0-clause-changed c =
+    let rs = ranges_of c.args.self.now c.args.chain.number in
     let r = c.args.run in
     let z : r.gap.place + r.ends.count ≡ r.gap.place = omega (arith, c.if-ends-eq0.true) in
-    record {
-      changed = unchanged x k _ (ap (λ n. take r.gap.place (ranges_of x k) ++ drop n (ranges_of x k)) z ∙ take-append-drop r.gap.place (ranges_of x k));
-      stands = c.requires.stands;
-      free = omega (arith, c.if-ends-eq0.true);
-    }
+    unchanged c.args.self.now c.args.chain.number _ (ap (λ n. take r.gap.place rs ++ drop n rs) z ∙ take-append-drop r.gap.place rs)
 
 pub index-requires : goal.index-requires
 index-requires c = end_fits c.args.self.now c.args.chain.number c.args.run c.args.chain.small (omega (arith, c.if-ends-eq0.false)) c.requires.follow
@@ -74,11 +69,8 @@ invariant_of-self c =
     let m = done (goal.at.invariant_of-self c).Joined-free-eq0 in
     record { least = omega (arith, x.least, c.relink.ensures.len); most = omega (arith, x.most, c.relink.ensures.len); twelve = m.twelve; running = m.running; ending = m.ending; parted = m.parted; whole = m.whole ∙ long x ∙ sym c.relink.ensures.len }
 
-pub returns : goal.returns
-returns c =
-    let m = done (goal.at.returns c).Joined-free-eq0 in
-    record {
-      changed = changed c.args.self.now _ c.args.chain.number _ _ _ m;
-      stands = still_stands c.args.self.now _ c.args.chain.number _ _ _ m c.args.run.gap _ c.args.chain.small refl c.requires.stands;
-      free = omega (arith, m.free, ap (λ e. e.count) (more (goal.at.returns c).Joined-free-eq0));
-    }
+pub returns-clause-changed : goal.returns-clause-changed
+returns-clause-changed c = changed c.args.self.now _ c.args.chain.number _ _ _ (done (goal.at.returns-clause-changed c).Joined-free-eq0)
+
+pub returns-clause-stands : goal.returns-clause-stands
+returns-clause-stands c = still_stands c.args.self.now _ c.args.chain.number _ _ _ (done (goal.at.returns-clause-stands c).Joined-free-eq0) c.args.run.gap _ c.args.chain.small refl c.requires.stands

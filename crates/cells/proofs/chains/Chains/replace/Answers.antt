@@ -1,19 +1,11 @@
 -- The run goes, and the ranges that there are come in its place; refused before anything is changed.
-use Rattle.std.proofs.Common.{refl, ap, arith}
-use Rattle.std.specs.Int.{from_bool}
-use Rattle.cells.specs.Places.{one_or_none}
+use Rattle.std.proofs.Common.{arith}
 use Rattle.cells.specs.Held.{both_fit}
-use Rattle.cells.proofs.Replaces.{replaced, longer, counted}
+use Rattle.cells.proofs.Replaces.{replaced}
 use Rattle.cells.proofs.chains.Chains.replace.Goals as goal
 
 pub overflow_add-free : goal.overflow_add-free
 overflow_add-free c = omega (arith, both_fit c.args.self.now c.args.chain.number c.args.chain.small, c.requires.follow.inside, c.free.ensures, c.args.self.now.most)
-
-pub returns-then-free-run : goal.returns-then-free-run
-returns-then-free-run c =
-    let r = c.args.run in
-    let n = longer c.args.self.now c.args.chain.number r.gap.place r.ends.count (one_or_none c.args.lower) (one_or_none c.args.upper) c.args.chain.small c.requires.follow.inside in
-    (refl, refl, omega (arith, n, c.free.ensures, c.from.ensures, c.from-2.ensures, ap from_bool c.is_some.ensures, ap from_bool c.is_some-2.ensures, counted c.args.lower, counted c.args.upper, c.if-free-run.true))
 
 pub returns : goal.returns
 returns c =

@@ -6,9 +6,6 @@ use Rattle.cells.proofs.Walks.{one_more}
 use Rattle.cells.proofs.chains.Chains.walk_while.Goals as goal
 use Rattle.cells.proofs.chains.Chains.walk_while.Goals.{else-loop-place-test, then-loop-place-test+then-not-passes}
 
-pub loop-place-init : goal.loop-place-init
-loop-place-init g c = record { here = refl; stands = c.requires.stands; on = c.requires.on; passed = λ i a b. absurd (omega arith) }
-
 pub index-cell-requires : goal.index-cell-requires
 index-cell-requires g c = at_fits c.args.self.now c.args.chain.number c.args.chain.small c.loop-place.spot.gap.place c.loop-place.spot.at c.loop-place.invariant.on (omega (arith, c.loop-place-test.true))
 
@@ -29,9 +26,6 @@ loop-place-preserved g c =
       passed = one_more (λ z. goal.F-post g c.args.passes z true) x k c.args.from.gap.place i (λ j a b. w.passed j a (omega arith))
           (subst (λ z. goal.F-post g c.args.passes z true) (sym is) (subst (goal.F-post g c.args.passes cell) c.if-not-passes.false c.passes.ensures));
     }
-
-pub returns-clause-passed : goal.returns-clause-passed
-returns-clause-passed g c = c.loop-place.invariant.passed
 
 pub returns-clause-stopped : goal.returns-clause-stopped
 returns-clause-stopped g c l =

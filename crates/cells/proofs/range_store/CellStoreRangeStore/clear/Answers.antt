@@ -2,11 +2,8 @@
 use Rattle.std.proofs.Common.{[]}
 use Rattle.store.proofs.Models.{emptied}
 use Rattle.cells.specs.Meaning.{meaning}
-use Rattle.cells.specs.Meanings.{one_set, still_ordered}
+use Rattle.cells.specs.Meanings.{one_set}
 use Rattle.cells.proofs.range_store.CellStoreRangeStore.clear.Goals as goal
-
-pub invariant_of-self : goal.invariant_of-self
-invariant_of-self c = let x = c.args.self.now in record { ordered = still_ordered x.chains c.clear.new.self c.from.result.number [] x.ordered tt c.clear.ensures }
 
 pub returns : goal.returns
 returns c =

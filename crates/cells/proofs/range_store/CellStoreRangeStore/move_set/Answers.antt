@@ -24,9 +24,6 @@ done c =
       sets_moved x.chains y z c.args.from c.args.to ne a.result.number b.result.number a.ensures b.ensures c.clear.ensures e.one e.two e.others,
     )
 
-pub invariant_of-self : goal.invariant_of-self
-invariant_of-self c = record { ordered = (done (goal.at.invariant_of-self c).After-exchange).0 }
-
 pub returns-then-ne : goal.returns-then-ne
 returns-then-ne c =
     let model = (done (goal.at.returns-then-ne c).After-exchange).1 in

@@ -3,8 +3,5 @@ use Rattle.std.proofs.Common.{arith}
 use Rattle.cells.specs.Totals.{all_used}
 use Rattle.cells.proofs.range_store.CellStoreRangeStore.total.Goals as goal
 
-pub overflow_sub-result : goal.overflow_sub-result
-overflow_sub-result c = omega (arith, all_used c.args.self.now.chains, c.free.ensures, c.len.ensures)
-
 pub returns : goal.returns
 returns c = omega (arith, all_used c.args.self.now.chains, c.free.ensures, c.len.ensures)
