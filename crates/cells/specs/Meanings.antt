@@ -9,6 +9,8 @@ use Rattle.store.specs.Changes.{moved, GrantedIfItFits}
 use Rattle.store.specs.declared.sets.SetName.{SetName}
 use Rattle.store.specs.declared.refusal.StoreRefusal.{StoreRefusal}
 use Rattle.store.proofs.Models.{number_small, total_follows}
+use Rattle.cells.specs.declared.cells_store.CellStore.{CellStore}
+use Rattle.cells.specs.declared.chains.Chain.{Chain}
 use Rattle.cells.specs.declared.chains.Chains.{Chains}
 use Rattle.cells.specs.Chains.{ranges_of, free_of, Changed, ChangedIfItFits}
 use Rattle.cells.specs.Places.{in_order}
@@ -39,6 +41,9 @@ Ordered x = (k : ℕ) → k < 11 → in_order 0 (ranges_of x k) ≡ true
 
 pub canonical : (x : Chains) → Ordered x → (k : ℕ) → k < 11 → Canonical (ranges_of x k)
 canonical x o k h = in_order_from 0 (ranges_of x k) (o k h)
+
+pub ordered_at : (x : CellStore) (chain : Chain) → Canonical (ranges_of x.chains chain.number)
+ordered_at x chain = canonical x.chains x.ordered chain.number chain.small
 
 -- and stay so where the changed chain's are
 pub still_ordered : (x y : Chains) (k : ℕ) (rs : List Span) → Ordered x → Canonical rs → Changed x y k rs → Ordered y

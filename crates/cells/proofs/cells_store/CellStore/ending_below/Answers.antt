@@ -1,7 +1,7 @@
 -- Behind the last range, or where the walk comes to.
 use Rattle.std.proofs.Common.{arith, rules}
 use Rattle.cells.specs.Held.{last_fits}
-use Rattle.cells.specs.Meanings.{canonical}
+use Rattle.cells.specs.Meanings.{ordered_at}
 use Rattle.cells.proofs.Steps.{at_last, behind_last}
 use Rattle.cells.proofs.Walks.{all_passed, ending_below}
 use Rattle.cells.proofs.cells_store.CellStore.ending_below.Goals as goal
@@ -14,7 +14,7 @@ returns-then-last-n c =
     record {
       stands = behind_last c.args.self.now.chains c.args.chain.number c.args.chain.small c.if-ends-gt0.true;
       on = at_last c.args.self.now.chains c.args.chain.number c.args.chain.small c.if-ends-gt0.true c.index-last.result.now c.index-last.ensures;
-      below = all_passed c.args.self.now.chains c.args.chain.number c.args.chain.small c.if-ends-gt0.true c.index-last.result.now c.index-last.ensures c.args.n (canonical c.args.self.now.chains c.args.self.now.ordered c.args.chain.number c.args.chain.small) c.if-last-n.true;
+      below = all_passed c.args.self.now.chains c.args.chain.number c.args.chain.small c.if-ends-gt0.true c.index-last.result.now c.index-last.ensures c.args.n (ordered_at c.args.self.now c.args.chain) c.if-last-n.true;
     }
 
 pub returns-clause-below : goal.returns-clause-below

@@ -4,7 +4,7 @@ use Rattle.store.specs.Ids.{Lawful}
 use Rattle.store.specs.Ranges.{with_range}
 use Rattle.store.proofs.Adding.{adding_keeps_order}
 use Rattle.cells.specs.Chains.{ranges_of, Changed}
-use Rattle.cells.specs.Meanings.{canonical, still_ordered}
+use Rattle.cells.specs.Meanings.{ordered_at, still_ordered}
 use Rattle.cells.specs.Held.{last_fits}
 use Rattle.cells.proofs.Puts.{grown}
 use Rattle.cells.proofs.cells_store.CellStore.grow_last.Goals as goal
@@ -20,7 +20,7 @@ done c =
     let y = c.set_last_high.new.self in
     let high = c.args.range.high in
     subst (λ n. Changed x y k (with_range n high (ranges_of x k))) c.low-low.ensures.value
-    (grown x y k c.args.chain.small (canonical c.args.self.now.chains c.args.self.now.ordered c.args.chain.number c.args.chain.small) (omega (arith, c.if-ends-eq0.false)) c.index-last.result.now c.index-last.ensures c.low-low.result high c.adjoining_below.result c.max.result c.low-low.ensures.lawful c.adjoining_below.ensures
+    (grown x y k c.args.chain.small (ordered_at c.args.self.now c.args.chain) (omega (arith, c.if-ends-eq0.false)) c.index-last.result.now c.index-last.ensures c.low-low.result high c.adjoining_below.result c.max.result c.low-low.ensures.lawful c.adjoining_below.ensures
     c.if-low-last.false c.if-last-adjoining_below.false (c.max.ensures ∙ ap (max c.index-last.result.now.high) c.high.ensures.value) c.set_last_high.ensures)
 
 pub invariant_of-self : goal.invariant_of-self
@@ -29,7 +29,7 @@ invariant_of-self c =
     let k = c.args.chain.number in
     let g = c.args.range in
     let law = subst (λ n. Lawful n g.high) c.low-low.ensures.value c.low-low.ensures.lawful in
-    record { ordered = still_ordered x c.set_last_high.new.self k _ c.args.self.now.ordered (adding_keeps_order 0 g.low g.high (ranges_of x k) (omega arith) law (canonical c.args.self.now.chains c.args.self.now.ordered c.args.chain.number c.args.chain.small)) (done (goal.at.invariant_of-self c).After-set_last_high) }
+    record { ordered = still_ordered x c.set_last_high.new.self k _ c.args.self.now.ordered (adding_keeps_order 0 g.low g.high (ranges_of x k) (omega arith) law (ordered_at c.args.self.now c.args.chain)) (done (goal.at.invariant_of-self c).After-set_last_high) }
 
 pub returns : goal.returns
 returns c = record { grown = λ _. done (goal.at.returns c).After-set_last_high; same = λ e. absurd (true≢false e) }

@@ -4,7 +4,7 @@ use Rattle.store.specs.Ids.{Lawful}
 use Rattle.store.specs.Ranges.{apart, with_range}
 use Rattle.store.proofs.Adding.{adding_keeps_order}
 use Rattle.cells.specs.Chains.{ranges_of, ChangedIfItFits}
-use Rattle.cells.specs.Meanings.{canonical, ordered_if_it_fits}
+use Rattle.cells.specs.Meanings.{ordered_at, ordered_if_it_fits}
 use Rattle.cells.proofs.Puts.{first_cell, last_cell, put_changes}
 use Rattle.cells.proofs.cells_store.CellStore.put_in.Goals as goal
 use Rattle.cells.proofs.cells_store.CellStore.put_in.Goals.{After-replace}
@@ -33,7 +33,7 @@ done c =
     let law = subst (λ n. Lawful n g.high) c.low.ensures.value c.low.ensures.lawful in
     let below : (id : ℕ) → ltb id c.adjoining_below-low.result ≡ apart id g.low = λ id. c.adjoining_below-low.ensures id ∙ ap (apart id) c.low.ensures.value in
     let above : (id : ℕ) → ltb c.adjoining_above-high.result id ≡ apart g.high id = λ id. c.adjoining_above-high.ensures id ∙ ap (λ n. apart n id) c.high.ensures.value in
-    let made = put_changes w k c.args.chain.small r e.follow y (canonical w c.grow_last.new.self.ordered k c.args.chain.small) g.low g.high law c.replace.result c.adjoining_below-low.result c.adjoining_above-high.result c.joined-joined.result below above e.below e.met c.joined-joined.ensures.alone c.joined-joined.ensures.whole c.replace.ensures in
+    let made = put_changes w k c.args.chain.small r e.follow y (ordered_at c.grow_last.new.self c.args.chain) g.low g.high law c.replace.result c.adjoining_below-low.result c.adjoining_above-high.result c.joined-joined.result below above e.below e.met c.joined-joined.ensures.alone c.joined-joined.ensures.whole c.replace.ensures in
     subst (λ z. ChangedIfItFits z y k (with_range g.low g.high (ranges_of z k)) c.replace.result) (ap (λ z. z.chains) (c.if-grow_last.ensures.same refl)) made
 
 pub invariant_of-self : goal.invariant_of-self
@@ -42,7 +42,7 @@ invariant_of-self c =
     let k = c.args.chain.number in
     let g = c.args.range in
     let law = subst (λ n. Lawful n g.high) c.low.ensures.value c.low.ensures.lawful in
-    record { ordered = ordered_if_it_fits x c.replace.new.self k _ c.replace.result c.args.self.now.ordered (adding_keeps_order 0 g.low g.high (ranges_of x k) (omega arith) law (canonical c.args.self.now.chains c.args.self.now.ordered c.args.chain.number c.args.chain.small)) (done (goal.at.invariant_of-self c).After-replace) }
+    record { ordered = ordered_if_it_fits x c.replace.new.self k _ c.replace.result c.args.self.now.ordered (adding_keeps_order 0 g.low g.high (ranges_of x k) (omega arith) law (ordered_at c.args.self.now c.args.chain)) (done (goal.at.invariant_of-self c).After-replace) }
 
 pub returns : goal.returns
 returns c = done (goal.at.returns c).After-replace

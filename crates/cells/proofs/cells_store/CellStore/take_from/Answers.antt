@@ -6,7 +6,7 @@ use Rattle.store.proofs.Removing.{removing_keeps_order}
 use Rattle.cells.specs.Chains.{ranges_of, ChangedIfItFits}
 use Rattle.cells.specs.Places.{one_or_none, EndingBelow, BeginningWithin}
 use Rattle.cells.specs.Held.{read}
-use Rattle.cells.specs.Meanings.{canonical, ordered_if_it_fits}
+use Rattle.cells.specs.Meanings.{ordered_at, ordered_if_it_fits}
 use Rattle.cells.proofs.Puts.{first_cell, last_cell, take_changes, takes_nothing}
 use Rattle.cells.proofs.cells_store.CellStore.take_from.Goals as goal
 use Rattle.cells.proofs.cells_store.CellStore.take_from.Goals.{After-replace}
@@ -19,7 +19,7 @@ returns-then-run-eq0 c =
     let r = c.meeting-run.result in
     let e = c.meeting-run.ensures in
     let law = subst (λ n. Lawful n g.high) c.low-low.ensures.value c.low-low.ensures.lawful in
-    takes_nothing x k (canonical c.args.self.now.chains c.args.self.now.ordered c.args.chain.number c.args.chain.small) g.low g.high r.gap.place r.ends.count law
+    takes_nothing x k (ordered_at c.args.self.now c.args.chain) g.low g.high r.gap.place r.ends.count law
     (subst (λ n. EndingBelow (ranges_of x k) n r.gap.place) c.low-low.ensures.value e.below) (subst (λ n. BeginningWithin (ranges_of x k) n r.gap.place r.ends.count) c.high-high.ensures.value e.met) c.if-run-eq0.true
 
 pub index-first-requires : goal.index-first-requires
@@ -46,7 +46,7 @@ done c =
     let law = subst (λ n. Lawful n g.high) c.low-low.ensures.value c.low-low.ensures.lawful in
     let first = read x r.ends.first c.index-first.result.now (first_cell x k c.args.chain.small r e.follow some) c.index-first.ensures in
     let last = read x r.ends.last c.index-last.result.now (last_cell x k c.args.chain.small r e.follow some) c.index-last.ensures in
-    take_changes x k c.args.chain.small r e.follow y (canonical c.args.self.now.chains c.args.self.now.ordered c.args.chain.number c.args.chain.small) g.low g.high law c.replace.result
+    take_changes x k c.args.chain.small r e.follow y (ordered_at c.args.self.now c.args.chain) g.low g.high law c.replace.result
     (one_or_none c.part_below-lower.result) (one_or_none c.part_above-upper.result) some
     (subst (λ n. EndingBelow (ranges_of x k) n r.gap.place) c.low-low.ensures.value e.below) (subst (λ n. BeginningWithin (ranges_of x k) n r.gap.place r.ends.count) c.high-high.ensures.value e.met)
     (c.part_below-lower.ensures ∙ ap (λ n. cond (ltb c.index-first.result.now.low n) ((c.index-first.result.now.low, n - 1) ∷ []) []) c.low-low.ensures.value ∙ ap (λ z. cond (ltb z.low g.low) ((z.low, g.low - 1) ∷ []) []) (sym first))
@@ -58,7 +58,7 @@ invariant_of-self c =
     let x = c.args.self.now.chains in
     let k = c.args.chain.number in
     let g = c.args.range in
-    record { ordered = ordered_if_it_fits x c.replace.new.self k _ c.replace.result c.args.self.now.ordered (removing_keeps_order 0 g.low g.high (ranges_of x k) g.rising (canonical c.args.self.now.chains c.args.self.now.ordered c.args.chain.number c.args.chain.small)) (done (goal.at.invariant_of-self c).After-replace) }
+    record { ordered = ordered_if_it_fits x c.replace.new.self k _ c.replace.result c.args.self.now.ordered (removing_keeps_order 0 g.low g.high (ranges_of x k) g.rising (ordered_at c.args.self.now c.args.chain)) (done (goal.at.invariant_of-self c).After-replace) }
 
 pub returns : goal.returns
 returns c = done (goal.at.returns c).After-replace
