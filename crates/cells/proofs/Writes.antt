@@ -1,7 +1,8 @@
 -- A cell written whose link stays, and two chains exchanged.
-use Rattle.std.proofs.Common.{◌≡◌, ℕ, zero, suc, ◌+◌, ◌<◌, ◌&&◌, ltb, leb, List, ◌∷◌, ◌++◌, length, get_or, take, drop, set, sym, refl, ap, ◌∙◌, subst, inl, inr, ⊎_elim, arith, length-set}
+use Rattle.std.proofs.Common.{◌≡◌, ℕ, zero, suc, ◌+◌, ◌<◌, ◌&&◌, ltb, leb, List, [], ◌∷◌, ◌++◌, length, get_or, take, drop, set, sym, refl, ap, ◌∙◌, subst, inl, inr, ⊎_elim, arith, length-set}
 use Rattle.std.proofs.lemmas.Bool.{cases_eq, cases_lt}
-use Rattle.std.proofs.lemmas.List.{set_past, get_or-set_same, get_or-set_other}
+use Rattle.std.specs.List.{swap}
+use Rattle.std.proofs.lemmas.List.{set_past, get_or_default, get_or-set_same, get_or-set_other}
 use Rattle.cells.specs.declared.cell.Cell.{Cell}
 use Rattle.cells.specs.declared.cell.Ends.{Ends}
 use Rattle.cells.specs.Links.{cell, ends, path, runs, final, numbers, sum, Running, Ending, Parted, Linked, spans}
@@ -62,6 +63,12 @@ module _ (cs : List Cell) (es : List Ends) (s i q lo hi : ℕ) (g : Linked cs es
   pub written : (cq : Cell) → cell cs q ≡ cq → After cs es s i q lo hi cq
   written cq e = subst (After cs es s i q lo hi) e base
 
+swap_is : (es : List Ends) (a b : ℕ) → a < length es → b < length es → swap es a b ≡ set (set es a (ends es b)) b (ends es a)
+swap_is [] a b h k = absurd (omega arith)
+swap_is (e ∷ es) a b h k =
+    let none : Ends = record { first = 0; last = 0; count = 0 } in
+    λ i. set (set (e ∷ es) a (get_or_default (e ∷ es) b e none k i)) b (get_or_default (e ∷ es) a e none h i)
+
 -- what is left by an exchange of two chains
 pub record Swapped (cs : List Cell) (es es' : List Ends) (a b : ℕ) : Type 0 where
   pub twelve : length es' ≡ 12
@@ -90,8 +97,8 @@ module _ (cs : List Cell) (es : List Ends) (a b : ℕ) (g : Linked cs es) (long 
     differ = λ pb pa e. ne (sym (g.2 b a (omega arith, omega arith, pb, pa, e)));
   }
 
-  pub swapped : Swapped cs es (set (set es a (ends es b)) b (ends es a)) a b
-  swapped = record {
+  written_both : Swapped cs es (set (set es a (ends es b)) b (ends es a)) a b
+  written_both = record {
     twelve = length-set (set es a (ends es b)) b (ends es a) ∙ length-set es a (ends es b) ∙ long;
     running = running cs cs es a b _ _ _ _ g swap_change;
     ending = ending cs cs es a b _ _ _ _ g swap_change;
@@ -101,3 +108,6 @@ module _ (cs : List Cell) (es : List Ends) (a b : ℕ) (g : Linked cs es) (long 
     two = numbers_f cs cs es a b _ _ _ _ g swap_change;
     others = λ k hk na nb. numbers_k cs cs es a b _ _ _ _ g swap_change k (omega arith) na nb;
   }
+
+  pub swapped : (fs : List Ends) → fs ≡ swap es a b → Swapped cs es fs a b
+  swapped fs e = subst (λ z. Swapped cs es z a b) (sym (e ∙ swap_is es a b (omega (arith, long)) (omega (arith, long)))) written_both

@@ -25,10 +25,7 @@ impl Chains {
         ensures two { ranges_of self.new two.number ≡ ranges_of self.old one.number }
         ensures others { (other : ℕ) → other < 11 → (other ≢ one.number) → (other ≢ two.number) → ranges_of self.new other ≡ ranges_of self.old other }
     {
-        let first = self.ends[one.number];
-        let second = self.ends[two.number];
-        self.ends[one.number] = second;
-        self.ends[two.number] = first;
+        self.ends.swap(one.number, two.number);
     }
 
     /// Writes another high end into the last cell of the chain.
