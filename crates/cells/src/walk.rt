@@ -104,9 +104,6 @@ impl CellStore {
     pub(crate) fn holds_in(&self, chain: Chain, id: u64) -> bool
         ensures { result ≡ has (ranges_of self.now.chains chain.number) id }
     {
-        match self.next_in(chain, id) {
-            Some((low, _)) => low <= id,
-            None => false,
-        }
+        self.next_in(chain, id).is_some_and(|(low, _)| low <= id)
     }
 }
