@@ -13,7 +13,8 @@ pub struct Cell {
     pub next: usize,
 }
 
-/// The first and the last of cells that are linked, and how many they are. Of none, both are numbers that no cell need have.
+/// The first and the last of linked cells, and how many they are. Of none the last means nothing; the first of a chain without cells is the number that
+/// ends its links, which no cell has.
 #[derive(Clone, Copy)]
 pub struct Ends {
     pub(crate) first: usize,

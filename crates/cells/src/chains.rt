@@ -44,11 +44,13 @@ pub struct Gap {
     pub(crate) before: Option<usize>,
 }
 
-/// The gap at the front of a chain.
-pub(crate) const FRONT: Gap = Gap {
-    place: 0,
-    before: None,
-};
+impl Gap {
+    /// The gap before the first cell.
+    pub(crate) const FRONT: Gap = Gap {
+        place: 0,
+        before: None,
+    };
+}
 
 /// Cells that stand together in a chain, and the gap before them.
 #[derive(Clone, Copy)]

@@ -5,7 +5,7 @@ ghost use Rattle.cells.specs.Chains.{ranges_of, free_of, Stands, Follow, Changed
 
 use crate::cell::{Cell, CheckedCells, Ends};
 use crate::chains::{Chain, Chains, Gap, Run};
-use std::mem::replace;
+use std::mem;
 
 // The number of the free chain.
 const FREE: usize = 11;
@@ -19,8 +19,8 @@ fn relink(cells: &mut Vec<Cell>, ends: &mut Ends, before: Option<usize>, to: usi
     ensures ends { ends.new ≡ with_link ends.old before to }
 {
     match before {
-        Some(cell) => replace(&mut cells[cell].next, to),
-        None => replace(&mut ends.first, to),
+        Some(cell) => mem::replace(&mut cells[cell].next, to),
+        None => mem::replace(&mut ends.first, to),
     }
 }
 
@@ -47,6 +47,7 @@ impl Chains {
         let CheckedCells { mut cells } = checked;
         let n = cells.len();
         link_all(&mut cells);
+        // Each set's links end at once, in the number behind the last cell's.
         let mut ends = [Ends {
             first: n,
             last: n,

@@ -6,9 +6,9 @@ ghost use Rattle.cells.specs.Places.{EndingBelow, BeginningWithin};
 
 use crate::cell::{Cell, Ends};
 use crate::cells_store::CellStore;
-use crate::chains::{Chain, Chains, FRONT, Gap, Run};
+use crate::chains::{Chain, Chains, Gap, Run};
 
-/// A gap, and the cell behind it; `at` is no cell at the end of the chain.
+/// A gap, and the number of the cell behind it; at the end of the chain, a number that no cell has.
 #[derive(Clone, Copy)]
 pub struct Spot {
     gap: Gap,
@@ -66,7 +66,7 @@ impl CellStore {
             }
         }
         let front = Spot {
-            gap: FRONT,
+            gap: Gap::FRONT,
             at: ends.first,
         };
         self.chains.walk_while(chain, front, |cell| cell.high < n)

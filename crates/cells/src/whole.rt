@@ -3,7 +3,7 @@ ghost use Rattle.std.specs.Prelude.{◌≡◌, ℕ, ◌-◌, ◌<◌, [], ◌∷
 ghost use Rattle.cells.specs.Chains.{count_of, ranges_of, Changed};
 ghost use Rattle.cells.specs.Places.{at_place};
 
-use crate::chains::{Chain, Chains, FRONT, Run};
+use crate::chains::{Chain, Chains, Gap, Run};
 
 impl Chains {
     /// Hands all cells of the chain to the free chain, in a constant number of steps.
@@ -11,7 +11,7 @@ impl Chains {
         ensures { Changed self.old self.new chain.number [] }
     {
         let run = Run {
-            gap: FRONT,
+            gap: Gap::FRONT,
             ends: self.ends[chain.number],
         };
         self.remove(chain, run);
