@@ -1,5 +1,6 @@
 // Twelve chains through one memory of cells.
-ghost use Rattle.std.specs.Prelude.{◌≡◌, ◌<◌, ◌≤◌, length, vec_len};
+ghost use Rattle.std.specs.Prelude.{◌≡◌, ◌<◌, length, vec_len};
+ghost use Rattle.store.specs.Limits.{MayBeLimit};
 ghost use Rattle.store.specs.Sets.{number};
 ghost use Rattle.cells.specs.Links.{Running, Ending, Parted, sum};
 
@@ -11,8 +12,7 @@ use store::SetName;
 pub struct Chains {
     pub(crate) cells: Vec<Cell>,
     pub(crate) ends: [Ends; 12],
-    ghost least: { 64 ≤ vec_len cells },
-    ghost most: { vec_len cells ≤ 65535 },
+    ghost lawful: { MayBeLimit (vec_len cells) },
     ghost twelve: { length ends ≡ 12 },
     ghost running: { Running cells.items ends },
     ghost ending: { Ending cells.items ends },
@@ -32,7 +32,7 @@ impl From<SetName> for Chain {
 
     fn from(set: SetName) -> Chain {
         Chain {
-            number: set.number() as usize,
+            number: usize::from(set.number()),
         }
     }
 }

@@ -11,5 +11,5 @@ mod range_store;
 mod walk;
 mod whole;
 
-pub use cell::{Cell, CheckedCells, RefusedCells};
+pub use cell::Cell;
 pub use cells_store::CellStore;

@@ -3,9 +3,10 @@ ghost use Rattle.std.specs.Prelude.{◌≡◌, ℕ, ◌+◌, ◌-◌, ◌<◌, I
 ghost use Rattle.cells.specs.Links.{cell, link, relinked, with_link};
 ghost use Rattle.cells.specs.Chains.{ranges_of, free_of, Stands, Follow, Changed};
 
-use crate::cell::{Cell, CheckedCells, Ends};
+use crate::cell::{Cell, Ends};
 use crate::chains::{Chain, Chains, Gap, Run};
 use std::mem;
+use store::Memory;
 
 // The number of the free chain.
 const FREE: usize = 11;
@@ -40,11 +41,11 @@ fn link_all(cells: &mut Vec<Cell>)
 
 impl Chains {
     /// Every cell free, whatever it holds.
-    pub(crate) fn new(checked: CheckedCells) -> Chains
-        ensures len { vec_len result.cells ≡ vec_len checked.cells }
+    pub(crate) fn new(memory: Memory<Cell>) -> Chains
+        ensures len { vec_len result.cells ≡ vec_len memory.places }
         ensures empty { (k : ℕ) → k < 11 → ranges_of result k ≡ [] }
     {
-        let CheckedCells { mut cells } = checked;
+        let Memory { places: mut cells } = memory;
         let n = cells.len();
         link_all(&mut cells);
         // Each set's links end at once, in the number behind the last cell's.

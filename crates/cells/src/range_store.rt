@@ -7,24 +7,24 @@ ghost use Rattle.cells.specs.Meanings;
 ghost use Rattle.std.proofs.Common.{rules};
 ghost use Rattle.cells.specs.Totals.{all_fit};
 
-use crate::cell::{Cell, CheckedCells};
+use crate::cell::Cell;
 use crate::cells_store::CellStore;
 use crate::chains::{Chain, Chains};
-use store::{Range, RangeStore, SetName, StoreRefusal};
+use store::{InMemory, Memory, Range, RangeStore, SetName, StoreRefusal};
 
-impl CellStore {
-    /// A store in these cells with every set empty, whatever they hold. Its limit is their number.
-    pub fn new(checked: CheckedCells) -> CellStore
+impl InMemory for CellStore {
+    type Place = Cell;
+
+    fn new(memory: Memory<Cell>) -> CellStore
         ensures empty { meaning result ≡ nothing }
-        ensures limit { limit_of result ≡ vec_len checked.cells }
+        ensures limit { limit_of result ≡ vec_len memory.places }
     {
         CellStore {
-            chains: Chains::new(checked),
+            chains: Chains::new(memory),
         }
     }
 
-    /// The cells back, as the store leaves them.
-    pub fn into_cells(self) -> Vec<Cell>
+    fn into_places(self) -> Vec<Cell>
         ensures cells { result ≡ self.chains.cells }
         ensures number { vec_len result ≡ limit_of self }
     {
@@ -63,10 +63,6 @@ impl RangeStore for CellStore {
 
     fn clear(&mut self, set: SetName) {
         self.chains.clear(Chain::from(set));
-    }
-
-    fn holds(&self, set: SetName, id: u64) -> bool {
-        self.holds_in(Chain::from(set), id)
     }
 
     fn next(&self, set: SetName, n: u64) -> Option<(u64, u64)> {

@@ -1,6 +1,6 @@
 // Walks along a chain, and what is asked of a set.
 ghost use Rattle.std.specs.Prelude.{◌≡◌, ℕ, ◌<◌, ◌≤◌, true, false};
-ghost use Rattle.store.specs.Ranges.{has, next_range};
+ghost use Rattle.store.specs.Ranges.{next_range};
 ghost use Rattle.cells.specs.Chains.{count_of, ranges_of, cell_at, Stands, Follow, GoesOn};
 ghost use Rattle.cells.specs.Places.{EndingBelow, BeginningWithin};
 
@@ -98,12 +98,5 @@ impl CellStore {
         let found = self.ending_below(chain, n);
         let cell = self.chains.cells.get(found.at)?;
         Some((cell.low, cell.high))
-    }
-
-    /// Whether the ID is in a range of the chain.
-    pub(crate) fn holds_in(&self, chain: Chain, id: u64) -> bool
-        ensures { result ≡ has (ranges_of self.now.chains chain.number) id }
-    {
-        self.next_in(chain, id).is_some_and(|(low, _)| low <= id)
     }
 }

@@ -1,5 +1,6 @@
 -- A free cell is linked in at the gap.
-use Rattle.std.proofs.Common.{◌≡◌, ◌+◌, eqb, vec_items, sym, refl, ap, ◌∙◌, arith}
+use Rattle.std.proofs.Common.{subst, sym, ◌≡◌, ◌+◌, eqb, vec_items, refl, ap, ◌∙◌, arith}
+use Rattle.store.specs.Limits.{MayBeLimit}
 use Rattle.cells.specs.Links.{ends}
 use Rattle.cells.specs.Held.{linked, long, first_fits, both_fit, before_fits, read, changed, still_stands}
 use Rattle.cells.proofs.Inserts.{After}
@@ -44,7 +45,7 @@ pub invariant_of-self : goal.invariant_of-self
 invariant_of-self c =
     let x = c.args.self.now in
     let m = done (goal.at.invariant_of-self c).After-relink-next in
-    record { least = omega (arith, x.least, c.relink-next.ensures.len); most = omega (arith, x.most, c.relink-next.ensures.len); twelve = m.twelve; running = m.running; ending = m.ending; parted = m.parted; whole = m.whole ∙ long x ∙ sym c.relink-next.ensures.len }
+    record { lawful = subst MayBeLimit (sym c.relink-next.ensures.len) x.lawful; twelve = m.twelve; running = m.running; ending = m.ending; parted = m.parted; whole = m.whole ∙ long x ∙ sym c.relink-next.ensures.len }
 
 pub returns-clause-changed : goal.returns-clause-changed
 returns-clause-changed c = changed c.args.self.now _ c.args.chain.number _ _ _ (done (goal.at.returns-clause-changed c).After-relink-next)

@@ -1,5 +1,6 @@
 -- All cells are free.
-use Rattle.std.proofs.Common.{◌≡◌, ℕ, ◌+◌, ◌<◌, length, vec_items, sym, refl, ◌∙◌, arith}
+use Rattle.std.proofs.Common.{subst, sym, ◌≡◌, ℕ, ◌+◌, ◌<◌, length, vec_items, refl, ◌∙◌, arith}
+use Rattle.store.specs.Limits.{MayBeLimit}
 use Rattle.cells.specs.Links.{cell}
 use Rattle.cells.proofs.Fresh.{fresh_running, fresh_ending, fresh_parted, fresh_sum}
 use Rattle.cells.proofs.chains.Chains.new.Goals as goal
@@ -9,7 +10,7 @@ whole : (c : After-link_all) → length (vec_items c.link_all.new.cells) ≡ c.l
 whole c = sym c.link_all.new.cells.ok.0 ∙ c.link_all.ensures.len ∙ sym c.len-n.ensures
 
 some : (c : After-link_all) → 0 < c.len-n.result
-some c = omega (arith, c.len-n.ensures, c.args.checked.least)
+some c = omega (arith, c.len-n.ensures, c.args.memory.lawful.0)
 
 next : (c : After-link_all) (k : ℕ) → k < c.len-n.result → (cell (vec_items c.link_all.new.cells) k).next ≡ k + 1
 next c k h = c.link_all.ensures.next k (omega (arith, c.len-n.ensures))
@@ -20,8 +21,7 @@ invariant_of-result c =
     let v = vec_items c.link_all.new.cells in
     let n = c.len-n.result in
     record {
-      least = omega (arith, c.link_all.ensures.len, c.args.checked.least);
-      most = omega (arith, c.link_all.ensures.len, c.args.checked.most);
+      lawful = subst MayBeLimit (sym c.link_all.ensures.len) c.args.memory.lawful;
       twelve = refl;
       running = fresh_running v n (whole d) (some d) (next d);
       ending = fresh_ending v n (whole d) (some d) (next d);

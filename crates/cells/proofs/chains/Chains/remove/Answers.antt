@@ -1,6 +1,7 @@
 -- No cells at all, or those behind the gap, which are handed to the free chain.
-use Rattle.std.proofs.Common.{◌≡◌, ◌+◌, ◌-◌, ◌<◌, ◌++◌, take, drop, vec_items, sym, refl, ap, ◌∙◌, arith, take-append-drop}
+use Rattle.std.proofs.Common.{subst, sym, ◌≡◌, ◌+◌, ◌-◌, ◌<◌, ◌++◌, take, drop, vec_items, refl, ap, ◌∙◌, arith, take-append-drop}
 use Rattle.std.proofs.lemmas.List.{get_or_read}
+use Rattle.store.specs.Limits.{MayBeLimit}
 use Rattle.cells.specs.Links.{ends}
 use Rattle.cells.specs.Chains.{ranges_of}
 use Rattle.cells.specs.Held.{linked, long, before_fits, end_fits, both_fit, read, changed, still_stands, unchanged}
@@ -67,7 +68,7 @@ pub invariant_of-self : goal.invariant_of-self
 invariant_of-self c =
     let x = c.args.self.now in
     let m = done (goal.at.invariant_of-self c).Joined-free-eq0 in
-    record { least = omega (arith, x.least, c.relink.ensures.len); most = omega (arith, x.most, c.relink.ensures.len); twelve = m.twelve; running = m.running; ending = m.ending; parted = m.parted; whole = m.whole ∙ long x ∙ sym c.relink.ensures.len }
+    record { lawful = subst MayBeLimit (sym c.relink.ensures.len) x.lawful; twelve = m.twelve; running = m.running; ending = m.ending; parted = m.parted; whole = m.whole ∙ long x ∙ sym c.relink.ensures.len }
 
 pub returns-clause-changed : goal.returns-clause-changed
 returns-clause-changed c = changed c.args.self.now _ c.args.chain.number _ _ _ (done (goal.at.returns-clause-changed c).Joined-free-eq0)

@@ -5,7 +5,7 @@ use Rattle.cells.proofs.Replaces.{replaced}
 use Rattle.cells.proofs.chains.Chains.replace.Goals as goal
 
 pub overflow_add-free : goal.overflow_add-free
-overflow_add-free c = omega (arith, both_fit c.args.self.now c.args.chain.number c.args.chain.small, c.requires.follow.inside, c.free.ensures, c.args.self.now.most)
+overflow_add-free c = omega (arith, both_fit c.args.self.now c.args.chain.number c.args.chain.small, c.requires.follow.inside, c.free.ensures, c.args.self.now.lawful.1)
 
 pub returns : goal.returns
 returns c =
