@@ -3,7 +3,7 @@ use Rattle.std.proofs.Common.{◌≡◌, ℕ, zero, suc, ◌+◌, ◌-◌, ◌<�
 use Rattle.std.proofs.lemmas.Bool.{and_from, le-leb, lt-ltb, cases_lt}
 use Rattle.cells.specs.declared.cell.Cell.{Cell}
 use Rattle.cells.specs.declared.cell.Ends.{Ends}
-use Rattle.cells.specs.Links.{cell, ends, path, runs, final, numbers, sum, Running, Ending, Parted, spans}
+use Rattle.cells.specs.Links.{cell, ends, path, runs, final, sum, Running, Ending, Parted}
 
 abbrev none : ℕ → Ends
 none n = record { first = n; last = n; count = 0 }
@@ -52,7 +52,3 @@ module _ (cs : List Cell) (n : ℕ) (long : length cs ≡ n) (some : 0 < n) (nex
 
   pub fresh_parted : Parted (fresh 11 n)
   fresh_parted j k w = full_only j w.0 w.2 ∙ sym (full_only k w.1 w.3)
-
-  -- the sets' chains have no cells
-  pub fresh_empty : (k : ℕ) → k < 11 → spans cs (numbers cs (fresh 11 n) k) ≡ []
-  fresh_empty k h = ap (λ e. spans cs (path cs e.count e.first)) (at_none 11 n k h)

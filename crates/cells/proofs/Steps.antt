@@ -54,17 +54,8 @@ module _ (x y : Chains) (k : ℕ) (h : k < 11) (pos : 0 < count_of x k) (l : Lis
       (ap (λ z. take (count_of x k - 1) (ranges_of x k) ++ (c.low, high) ∷ z) none ∙ ap (λ z. take (count_of x k - 1) (ranges_of x k) ++ (z.0, high) ∷ []) (sym r))
       (changed x y k l _ spare m)
 
--- the number that so many steps from the first cell lead to
+-- the number that so many steps from the first cell lead to, and the cell that it names
 module _ (x : Chains) (k : ℕ) (h : k < 11) where
-  pub at_start : GoesOn x k 0 (ends x.ends k).first
-  at_start =
-      let e : count_of x k ≡ count_of x k - 0 = omega arith in
-      record {
-        inside = omega arith;
-        rest = ap (λ n. path (vec_items x.cells) n (ends x.ends k).first) e;
-        stops = ap (λ n. runs (vec_items x.cells) n (ends x.ends k).first) (sym e) ∙ x.running k (omega arith);
-      }
-
   module _ (i at : ℕ) (w : GoesOn x k i at) (l : i < count_of x k) where
     here : drop i (numbers_of x k) ≡ at ∷ path (vec_items x.cells) (count_of x k - (i + 1)) (cell (vec_items x.cells) at).next
     here = w.rest ∙ (let e : count_of x k - i ≡ suc (count_of x k - (i + 1)) = omega arith in ap (λ n. path (vec_items x.cells) n at) e)

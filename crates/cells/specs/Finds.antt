@@ -1,11 +1,9 @@
 -- Ranges in order: the test of their order, and what a place that a search stops at says of the next range and of members.
-use Rattle.std.specs.Prelude.{◌≡◌, ℕ, zero, suc, ◌+◌, ◌-◌, ◌<◌, ◌≤◌, true, false, ◌⊎◌, List, [], ◌∷◌, length, Some, None, Option, MatchOption, Bool, nat_le, refl}
-use Rattle.std.proofs.Common.{sym, subst, ◌∙◌, inl, inr, arith}
-use Rattle.std.proofs.lemmas.Bool.{and_parts, and_from, leb-true, le-leb, lt-leb, eqb-true, eq-eqb, ltb-true, lt-ltb, le-ltb, cond-true, cond-false, cases_lt}
-use Rattle.std.proofs.lemmas.Bool.Decides.{nat_tests}
+use Rattle.std.specs.Prelude.{◌≡◌, ℕ, zero, suc, ◌+◌, ◌-◌, ◌<◌, ◌≤◌, true, List, [], ◌∷◌, length, Some, None, refl}
+use Rattle.std.proofs.Common.{subst, ◌∙◌, arith}
+use Rattle.std.proofs.lemmas.Bool.{and_parts, and_from, leb-true, le-leb, eqb-true, eq-eqb, ltb-true, lt-ltb, le-ltb, cond-true, cond-false}
 use Rattle.store.specs.Ids.{Lawful}
-use Rattle.store.specs.Ranges.{Span, place, within, has, From, Canonical, next_range, LowestNotBelow, LowestOrNone}
-use Rattle.store.proofs.Nexts.{next_is_lowest}
+use Rattle.store.specs.Ranges.{Span, place, From, Canonical, next_range}
 use Rattle.cells.specs.Places.{at_place, EndingBelow, BeginningWithin, lawful, in_order}
 
 -- a range that passes the test is lawful
@@ -62,23 +60,6 @@ pub next_some : (rs : List Span) (n i : ℕ) → EndingBelow rs n i → i < leng
 next_some [] n i w h = absurd (omega arith)
 next_some (r ∷ rs) n zero w h = cond-false _ _ _ (le-ltb _ _ (w.stops (omega arith)))
 next_some (r ∷ rs) n (suc i) w h = cond-true _ _ _ (lt-ltb _ _ (w.passed 0 (omega arith))) ∙ next_some rs n i (ending_rest r rs n i w) (omega arith)
-
--- an ID with no next range is not in the set
-has_none : (rs : List Span) (id : ℕ) → Canonical rs → next_range rs id ≡ None → has rs id ≡ false
-has_none rs id f e = subst (LowestOrNone rs id) e (next_is_lowest 0 rs id f) id (omega arith)
-
--- an ID with a next range is in the set exactly if that range begins at it or before
-has_some : (rs : List Span) (id lo hi : ℕ) → Canonical rs → next_range rs id ≡ Some (lo, hi) → has rs id ≡ nat_le lo id
-has_some rs id lo hi f e = go (subst (LowestOrNone rs id) e (next_is_lowest 0 rs id f)) (cases_lt id lo)
-  where
-    go : LowestNotBelow rs id (lo, hi) → (id < lo) ⊎ (lo ≤ id) → has rs id ≡ nat_le lo id
-    go r (inl lt) = r.none_lower id (omega arith) lt ∙ sym (lt-leb _ _ lt)
-    go r (inr ge) = let w : within lo hi id ≡ true = grind (arith, nat_tests, r.reaches) in r.whole id w ∙ sym (le-leb _ _ ge)
-
--- so what is told of an ID by the next range says whether it is in the set
-pub has_by_next : (rs : List Span) (id : ℕ) (o : Option Span) (b : Bool) (P : Span → Type 0) → Canonical rs → o ≡ next_range rs id → ((s : Span) → P s → b ≡ nat_le s.0 id) → MatchOption o (b ≡ false) P → b ≡ has rs id
-has_by_next rs id None b P f e t m = m ∙ sym (has_none rs id f (sym e))
-has_by_next rs id (Some s) b P f e t m = t s m ∙ sym (has_some rs id s.0 s.1 f (sym e))
 
 -- the last range: it begins at the place m or later, it is lawful, and it ends at x or later
 abbrev pub Last : ℕ → List Span → ℕ → ℕ → Type 0

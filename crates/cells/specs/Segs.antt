@@ -59,10 +59,6 @@ pub seg-++ : (cs : List Cell) (i m e : ℕ) (a b : List ℕ) → Seg cs i a m �
 seg-++ cs i m e [] b s t = subst (λ j. Seg cs j b e) (sym s) t
 seg-++ cs i m e (x ∷ a) b s t = (s.0, s.1, seg-++ cs (cell cs x).next m e a b s.2 t)
 
-pub seg_parts : (cs : List Cell) (i e : ℕ) (a b : List ℕ) → Seg cs i (a ++ b) e → (m : ℕ) × (Seg cs i a m × Seg cs m b e)
-seg_parts cs i e [] b s = (i, (refl, s))
-seg_parts cs i e (x ∷ a) b s = let r = seg_parts cs (cell cs x).next e a b s.2 in (r.0, ((s.0, s.1, r.1.0), r.1.1))
-
 -- the cell p of a path, and what goes before and after it
 pub seg_at : (cs : List Cell) (i e p : ℕ) (a b : List ℕ) → Seg cs i (a ++ p ∷ b) e → Seg cs i a p × (p < length cs) × Seg cs (cell cs p).next b e
 seg_at cs i e p [] b s = (s.0, s.1, s.2)
