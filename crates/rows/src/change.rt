@@ -1,13 +1,13 @@
 // A range put under a label or taken from under it, and a label cleared.
-ghost use Rattle.std.specs.Prelude.{◌≡◌, None, ◌+◌, ◌-◌, ◌<◌, ◌^◌, ◌≤◌, min, max, [], ◌++◌, length, nat_lt, option_to_list, slice_index_or};
+ghost use Rattle.std.specs.Prelude.{◌≡◌, None, ◌+◌, ◌-◌, ◌<◌, min, max, [], length, nat_lt, option_to_list, slice_index_or};
 ghost use Rattle.store.specs.Ranges.{with_range, without_range};
 ghost use Rattle.rows.specs.declared.row.Row.{Row as RowT};
-ghost use Rattle.rows.specs.Rows.{Rising, ranges};
-ghost use Rattle.rows.specs.Tables.{rows_of, maybe, spliced, HoldsIfItFits, Becomes, BecomesIfItFits};
+ghost use Rattle.rows.specs.Rows.{ranges};
+ghost use Rattle.rows.specs.Tables.{rows_of, maybe, Becomes, BecomesIfItFits};
 
 use crate::row::Row;
 use crate::search::spot;
-use crate::table::{Label, Stretch, Table};
+use crate::table::{Label, Table};
 use store::{Range, StoreRefusal};
 
 // One row for the range and the rows that it meets.
@@ -65,7 +65,7 @@ impl Table {
             spot(label.value, range.high()) + 2,
         );
         let row = joined(label, range, &self.in_use()[met.from..met.to]);
-        self.replace_if_it_fits(met, &[row])
+        self.replace_if_it_fits(met, Some(row), None)
     }
 
     /// Takes the range's IDs from under the label; refused as full where that takes more rows than there are.
@@ -79,25 +79,7 @@ impl Table {
         let rows = &self.in_use()[met.from..met.to];
         let below = part_below(label, range, rows);
         let above = part_above(label, range, rows);
-        self.replace_by_parts(met, below, above)
-    }
-
-    // The rows of the stretch give way to up to two.
-    fn replace_by_parts(
-        &mut self,
-        gone: Stretch,
-        below: Option<Row>,
-        above: Option<Row>,
-    ) -> Result<(), StoreRefusal>
-        requires to { gone.to ≤ self.old.used }
-        requires rising { Rising 0 (spliced gone.from gone.to (option_to_list below ++ option_to_list above) (rows_of self.old)) }
-        ensures { HoldsIfItFits self.old self.new (spliced gone.from gone.to (option_to_list below ++ option_to_list above) (rows_of self.old)) result }
-    {
-        match (below, above) {
-            (Some(below), Some(above)) => self.replace_if_it_fits(gone, &[below, above]),
-            (Some(part), None) | (None, Some(part)) => self.replace_if_it_fits(gone, &[part]),
-            (None, None) => self.replace_if_it_fits(gone, &[]),
-        }
+        self.replace_if_it_fits(met, below, above)
     }
 
     /// Takes all from under the label.

@@ -1,5 +1,5 @@
 // Some of the rows in use give way to others.
-ghost use Rattle.std.specs.Prelude.{◌≡◌, ◌+◌, ◌-◌, ◌<◌, ◌≤◌, length, take, vec_len};
+ghost use Rattle.std.specs.Prelude.{◌≡◌, ◌+◌, ◌-◌, ◌<◌, ◌≤◌, ◌++◌, length, take, vec_len, option_to_list};
 ghost use Rattle.rows.specs.Rows.{Rising};
 ghost use Rattle.rows.specs.Tables.{rows_of, room_of, spliced, Holds, HoldsIfItFits};
 
@@ -34,21 +34,26 @@ impl Table {
         self.used = gone.from + new.len() + (self.used - gone.to);
     }
 
-    // The same, refused where there would be more rows than there are.
+    // The rows of the stretch give way to up to two; refused where there would be more rows than there are.
     pub(crate) fn replace_if_it_fits(
         &mut self,
         gone: Stretch,
-        new: &[Row],
+        below: Option<Row>,
+        above: Option<Row>,
     ) -> Result<(), StoreRefusal>
-        requires few { length new.now ≤ 2 }
         requires to { gone.to ≤ self.old.used }
-        requires rising { Rising 0 (spliced gone.from gone.to new.now (rows_of self.old)) }
-        ensures { HoldsIfItFits self.old self.new (spliced gone.from gone.to new.now (rows_of self.old)) result }
+        requires rising { Rising 0 (spliced gone.from gone.to (option_to_list below ++ option_to_list above) (rows_of self.old)) }
+        ensures { HoldsIfItFits self.old self.new (spliced gone.from gone.to (option_to_list below ++ option_to_list above) (rows_of self.old)) result }
     {
-        if gone.from + new.len() + (self.used - gone.to) > self.memory.places.len() {
+        let new = usize::from(below.is_some()) + usize::from(above.is_some());
+        if gone.from + new + (self.used - gone.to) > self.memory.places.len() {
             return Err(StoreRefusal::Full);
         }
-        self.replace(gone, new);
+        match (below, above) {
+            (Some(below), Some(above)) => self.replace(gone, &[below, above]),
+            (Some(row), None) | (None, Some(row)) => self.replace(gone, &[row]),
+            (None, None) => self.replace(gone, &[]),
+        }
         Ok(())
     }
 }

@@ -1,5 +1,5 @@
 // How many ranges a store may have room for.
-ghost use Rattle.std.specs.Prelude.{◌≡◌, ◌≤◌, MatchResult};
+ghost use Rattle.std.specs.Prelude.{◌≡◌, MatchResult};
 ghost use Rattle.store.specs.Limits.{MayBeLimit};
 ghost use Rattle.store.specs.Refusals.{listed, wrong_row_count};
 

@@ -20,11 +20,11 @@ changes c =
     let at = found _ _ _ (spot g r.low) (spot g r.high + 1) _ _ (c.spot.ensures ∙ ap (spot g) c.low.ensures.value) (ap (λ x. x + 1) (c.spot-2.ensures ∙ ap (spot g) c.high.ensures.value)) c.between-met.ensures in
     take_changes _ (slice_range c.in_use.result.now m.from m.to) (in_order c.args.self.now) g r.low r.high m.from m.to c.args.label.small law m.up (ap (λ l. slice_range l m.from m.to) c.in_use.ensures) at below.result above.result below.ensures.none above.ensures.none below.ensures.some above.ensures.some
 
-pub replace_by_parts-requires-clause-rising : goal.replace_by_parts-requires-clause-rising
-replace_by_parts-requires-clause-rising c = (changes (goal.at.replace_by_parts-requires-clause-rising c).After-part_above-above).in_order
+pub replace_if_it_fits-requires-clause-rising : goal.replace_if_it_fits-requires-clause-rising
+replace_if_it_fits-requires-clause-rising c = (changes (goal.at.replace_if_it_fits-requires-clause-rising c).After-part_above-above).in_order
 
 pub returns : goal.returns
 returns c = record {
-  room = c.replace_by_parts.ensures.room;
-  rows = answered _ _ _ _ _ _ c.replace_by_parts.result c.replace_by_parts.ensures.rows (changes (goal.at.returns c).After-part_above-above);
+  room = c.replace_if_it_fits.ensures.room;
+  rows = answered _ _ _ _ _ _ c.replace_if_it_fits.result c.replace_if_it_fits.ensures.rows (changes (goal.at.returns c).After-part_above-above);
 }
