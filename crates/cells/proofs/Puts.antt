@@ -1,5 +1,5 @@
 -- The ranges of a chain with a range put into them, and taken out.
-use Rattle.std.proofs.Common.{◌≡◌, ℕ, ◌+◌, ◌-◌, ◌<◌, ◌≤◌, min, max, cond, ltb, List, [], ◌∷◌, ◌++◌, length, get_or, take, drop, vec_items, vec_len, Result, sym, refl, ap, ◌∙◌, subst, arith}
+use Rattle.std.proofs.Common.{◌≡◌, ℕ, ◌+◌, ◌-◌, ◌<◌, ◌≤◌, min, max, Bool, true, false, cond, Some, None, ltb, List, [], ◌∷◌, ◌++◌, length, get_or, take, drop, vec_items, vec_len, Result, sym, refl, ap, ◌∙◌, subst, arith}
 use Rattle.store.specs.Ids.{Lawful}
 use Rattle.store.specs.Ranges.{Span, Canonical, apart, with_range, without_range}
 use Rattle.store.specs.declared.refusal.StoreRefusal.{StoreRefusal}
@@ -8,11 +8,16 @@ use Rattle.cells.specs.declared.chains.Chains.{Chains}
 use Rattle.cells.specs.declared.chains.Run.{Run}
 use Rattle.cells.specs.Links.{cell, ends}
 use Rattle.cells.specs.Chains.{count_of, ranges_of, Follow, Changed, ChangedIfItFits}
-use Rattle.cells.specs.Places.{at_place, EndingBelow, BeginningWithin}
+use Rattle.cells.specs.Places.{at_place, one_or_none, EndingBelow, BeginningWithin}
 use Rattle.cells.specs.Held.{ranges_many, place_fits, end_fits, last_fits, read, unchanged}
 use Rattle.cells.proofs.Steps.{last_at, range_at}
 use Rattle.cells.proofs.Joins.{put_at, grow_last}
 use Rattle.cells.proofs.Cuts.{take_at, take_nothing}
+
+-- a range that there is on a condition, as a list
+pub as_list : (b : Bool) (r : Span) → one_or_none (cond b (Some r) None) ≡ cond b (r ∷ []) []
+as_list true r = refl
+as_list false r = refl
 
 -- the last range grown
 module _ (x y : Chains) (k : ℕ) (h : k < 11) (f : Canonical (ranges_of x k)) (pos : 0 < count_of x k) (c : Cell) (r : c ≡ get_or (vec_items x.cells) (ends x.ends k).last c) (lo hi lo' top : ℕ) (law : Lawful lo hi) (below : (id : ℕ) → ltb id lo' ≡ apart id lo) where

@@ -1,11 +1,10 @@
 // A range put into a set's chain, and taken out of it.
-ghost use Rattle.std.specs.Prelude.{◌≡◌, ℕ, ◌+◌, ◌-◌, ◌<◌, ◌≤◌, min, max, true, false, [], ◌∷◌, ◌++◌, length, take, drop, if◌then◌else◌, vec_len, nat_lt};
+ghost use Rattle.std.specs.Prelude.{◌≡◌, ℕ, ◌+◌, ◌-◌, ◌<◌, ◌≤◌, min, max, true, false, [], ◌∷◌, ◌++◌, length, take, drop, vec_len, nat_lt};
 ghost use Rattle.store.specs.Ranges.{apart, with_range, without_range};
 ghost use Rattle.cells.specs.Links.{cell};
 ghost use Rattle.cells.specs.Chains.{ranges_of, free_of, Stands, Follow, Changed, ChangedIfItFits};
 ghost use Rattle.cells.specs.Places.{one_or_none};
 
-use crate::cell::Cell;
 use crate::cells_store::CellStore;
 use crate::chains::{Chain, Chains, Gap, Run};
 use store::{COUNTERS, Range, StoreRefusal};
@@ -26,20 +25,6 @@ fn adjoining_above(high: u64) -> u64
     } else {
         high + 1
     }
-}
-
-// What is left of a range below `low`.
-fn part_below(cell: Cell, low: u64) -> Option<(u64, u64)>
-    ensures { one_or_none result ≡ (if nat_lt cell.low low then (cell.low, low - 1) ∷ [] else []) }
-{
-    (cell.low < low).then(|| (cell.low, low - 1))
-}
-
-// What is left of a range above `high`.
-fn part_above(cell: Cell, high: u64) -> Option<(u64, u64)>
-    ensures { one_or_none result ≡ (if nat_lt high cell.high then (high + 1, cell.high) ∷ [] else []) }
-{
-    (high < cell.high).then(|| (high + 1, cell.high))
 }
 
 impl CellStore {
@@ -81,16 +66,14 @@ impl CellStore {
     pub(crate) fn take_from(&mut self, chain: Chain, range: Range) -> Result<(), StoreRefusal>
         ensures { ChangedIfItFits self.old.chains self.new.chains chain.number (without_range range.low range.high (ranges_of self.old.chains chain.number)) result }
     {
-        let low = range.low();
-        let high = range.high();
-        let run = self.meeting(chain, low, high);
+        let run = self.meeting(chain, range.low(), range.high());
         if run.ends.count == 0 {
             return Ok(());
         }
         let first = self.chains.cells[run.ends.first];
         let last = self.chains.cells[run.ends.last];
-        let lower = part_below(first, low);
-        let upper = part_above(last, high);
+        let lower = range.leaves_below(first.low);
+        let upper = range.leaves_above(last.high);
         self.chains.replace(chain, run, lower, upper)
     }
 }
@@ -103,14 +86,12 @@ impl Chains {
         ensures alone { run.ends.count ≡ 0 → result ≡ (range.low, range.high) }
         ensures whole { 0 < run.ends.count → result ≡ (min range.low (cell self.now.cells.items run.ends.first).low, max range.high (cell self.now.cells.items run.ends.last).high) }
     {
-        let low = range.low();
-        let high = range.high();
         if run.ends.count == 0 {
-            return (low, high);
+            return (range.low(), range.high());
         }
         let first = self.cells[run.ends.first];
         let last = self.cells[run.ends.last];
-        (low.min(first.low), high.max(last.high))
+        range.joined_with(first.low, last.high)
     }
 
     // Up to two ranges in the place of those of the run.

@@ -15,17 +15,14 @@ fn joined(label: Label, range: Range, met: &[Row]) -> Row
     ensures alone { length met.now ≡ 0 → result ≡ record { label = label.value; low = range.low; high = range.high } }
     ensures whole { (d : RowT) → 0 < length met.now → result ≡ record { label = label.value; low = min range.low (slice_index_or met.now 0 d).low; high = max range.high (slice_index_or met.now (length met.now - 1) d).high } }
 {
-    match (met.first(), met.last()) {
-        (Some(first), Some(last)) => Row {
-            label: label.value,
-            low: range.low().min(first.low),
-            high: range.high().max(last.high),
-        },
-        _ => Row {
-            label: label.value,
-            low: range.low(),
-            high: range.high(),
-        },
+    let (low, high) = match (met.first(), met.last()) {
+        (Some(first), Some(last)) => range.joined_with(first.low, last.high),
+        _ => (range.low(), range.high()),
+    };
+    Row {
+        label: label.value,
+        low,
+        high,
     }
 }
 
@@ -34,11 +31,11 @@ fn part_below(label: Label, range: Range, met: &[Row]) -> Option<Row>
     ensures none { length met.now ≡ 0 → result ≡ None }
     ensures some { (d : RowT) → 0 < length met.now → option_to_list result ≡ maybe (nat_lt (slice_index_or met.now 0 d).low range.low) (record { label = label.value; low = (slice_index_or met.now 0 d).low; high = range.low - 1 }) }
 {
-    let first = met.first()?;
-    (first.low < range.low()).then(|| Row {
+    let (low, high) = range.leaves_below(met.first()?.low)?;
+    Some(Row {
         label: label.value,
-        low: first.low,
-        high: range.low() - 1,
+        low,
+        high,
     })
 }
 
@@ -47,11 +44,11 @@ fn part_above(label: Label, range: Range, met: &[Row]) -> Option<Row>
     ensures none { length met.now ≡ 0 → result ≡ None }
     ensures some { (d : RowT) → 0 < length met.now → option_to_list result ≡ maybe (nat_lt range.high (slice_index_or met.now (length met.now - 1) d).high) (record { label = label.value; low = range.high + 1; high = (slice_index_or met.now (length met.now - 1) d).high }) }
 {
-    let last = met.last()?;
-    (range.high() < last.high).then(|| Row {
+    let (low, high) = range.leaves_above(met.last()?.high)?;
+    Some(Row {
         label: label.value,
-        low: range.high() + 1,
-        high: last.high,
+        low,
+        high,
     })
 }
 

@@ -1,5 +1,5 @@
 // A range of IDs of one replica: no other range can be made.
-ghost use Rattle.std.specs.Prelude.{◌≡◌, ◌/◌, ◌^◌, ◌<◌, ◌≤◌, MatchOption};
+ghost use Rattle.std.specs.Prelude.{◌≡◌, ◌+◌, ◌-◌, ◌/◌, ◌^◌, ◌<◌, ◌≤◌, min, max, Some, None, if◌then◌else◌, nat_lt, MatchOption};
 ghost use Rattle.store.specs.Ids.{Lawful, replid};
 
 /// How many counters a REPLID has. An ID is REPLID × COUNTERS + counter, so it is also the lowest ID.
@@ -41,5 +41,26 @@ impl Range {
         ensures lawful { Lawful self.low result }
     {
         self.high
+    }
+
+    /// What it leaves, below itself, of a range that begins at `low`: the lowest and the highest ID.
+    pub fn leaves_below(self, low: u64) -> Option<(u64, u64)>
+        ensures { result ≡ (if nat_lt low self.low then Some (low, self.low - 1) else None) }
+    {
+        (low < self.low).then(|| (low, self.low - 1))
+    }
+
+    /// What it leaves, above itself, of a range that ends at `high`: the lowest and the highest ID.
+    pub fn leaves_above(self, high: u64) -> Option<(u64, u64)>
+        ensures { result ≡ (if nat_lt self.high high then Some (self.high + 1, high) else None) }
+    {
+        (self.high < high).then(|| (self.high + 1, high))
+    }
+
+    /// The lowest and the highest ID of it and of ranges from `low` to `high` together.
+    pub fn joined_with(self, low: u64, high: u64) -> (u64, u64)
+        ensures { result ≡ (min self.low low, max self.high high) }
+    {
+        (self.low.min(low), self.high.max(high))
     }
 }

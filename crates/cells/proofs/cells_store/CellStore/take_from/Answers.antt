@@ -7,7 +7,7 @@ use Rattle.cells.specs.Chains.{ranges_of, ChangedIfItFits}
 use Rattle.cells.specs.Places.{one_or_none, EndingBelow, BeginningWithin}
 use Rattle.cells.specs.Held.{read}
 use Rattle.cells.specs.Meanings.{ordered_at, ordered_if_it_fits}
-use Rattle.cells.proofs.Puts.{first_cell, last_cell, take_changes, takes_nothing}
+use Rattle.cells.proofs.Puts.{first_cell, last_cell, as_list, take_changes, takes_nothing}
 use Rattle.cells.proofs.cells_store.CellStore.take_from.Goals as goal
 use Rattle.cells.proofs.cells_store.CellStore.take_from.Goals.{After-replace}
 
@@ -18,9 +18,9 @@ returns-then-run-eq0 c =
     let g = c.args.range in
     let r = c.meeting-run.result in
     let e = c.meeting-run.ensures in
-    let law = subst (λ n. Lawful n g.high) c.low-low.ensures.value c.low-low.ensures.lawful in
+    let law = subst (λ n. Lawful n g.high) c.low.ensures.value c.low.ensures.lawful in
     takes_nothing x k (ordered_at c.args.self.now c.args.chain) g.low g.high r.gap.place r.ends.count law
-    (subst (λ n. EndingBelow (ranges_of x k) n r.gap.place) c.low-low.ensures.value e.below) (subst (λ n. BeginningWithin (ranges_of x k) n r.gap.place r.ends.count) c.high-high.ensures.value e.met) c.if-run-eq0.true
+    (subst (λ n. EndingBelow (ranges_of x k) n r.gap.place) c.low.ensures.value e.below) (subst (λ n. BeginningWithin (ranges_of x k) n r.gap.place r.ends.count) c.high.ensures.value e.met) c.if-run-eq0.true
 
 pub index-first-requires : goal.index-first-requires
 index-first-requires c =
@@ -43,14 +43,14 @@ done c =
     let r = c.meeting-run.result in
     let e = c.meeting-run.ensures in
     let some : 0 < r.ends.count = omega (arith, c.if-run-eq0.false) in
-    let law = subst (λ n. Lawful n g.high) c.low-low.ensures.value c.low-low.ensures.lawful in
+    let law = subst (λ n. Lawful n g.high) c.low.ensures.value c.low.ensures.lawful in
     let first = read x r.ends.first c.index-first.result.now (first_cell x k c.args.chain.small r e.follow some) c.index-first.ensures in
     let last = read x r.ends.last c.index-last.result.now (last_cell x k c.args.chain.small r e.follow some) c.index-last.ensures in
     take_changes x k c.args.chain.small r e.follow y (ordered_at c.args.self.now c.args.chain) g.low g.high law c.replace.result
-    (one_or_none c.part_below-lower.result) (one_or_none c.part_above-upper.result) some
-    (subst (λ n. EndingBelow (ranges_of x k) n r.gap.place) c.low-low.ensures.value e.below) (subst (λ n. BeginningWithin (ranges_of x k) n r.gap.place r.ends.count) c.high-high.ensures.value e.met)
-    (c.part_below-lower.ensures ∙ ap (λ n. cond (ltb c.index-first.result.now.low n) ((c.index-first.result.now.low, n - 1) ∷ []) []) c.low-low.ensures.value ∙ ap (λ z. cond (ltb z.low g.low) ((z.low, g.low - 1) ∷ []) []) (sym first))
-    (c.part_above-upper.ensures ∙ ap (λ n. cond (ltb n c.index-last.result.now.high) ((n + 1, c.index-last.result.now.high) ∷ []) []) c.high-high.ensures.value ∙ ap (λ z. cond (ltb g.high z.high) ((g.high + 1, z.high) ∷ []) []) (sym last))
+    (one_or_none c.leaves_below-lower.result) (one_or_none c.leaves_above-upper.result) some
+    (subst (λ n. EndingBelow (ranges_of x k) n r.gap.place) c.low.ensures.value e.below) (subst (λ n. BeginningWithin (ranges_of x k) n r.gap.place r.ends.count) c.high.ensures.value e.met)
+    (ap one_or_none c.leaves_below-lower.ensures ∙ as_list (ltb c.index-first.result.now.low g.low) (c.index-first.result.now.low, g.low - 1) ∙ ap (λ z. cond (ltb z.low g.low) ((z.low, g.low - 1) ∷ []) []) (sym first))
+    (ap one_or_none c.leaves_above-upper.ensures ∙ as_list (ltb g.high c.index-last.result.now.high) (g.high + 1, c.index-last.result.now.high) ∙ ap (λ z. cond (ltb g.high z.high) ((g.high + 1, z.high) ∷ []) []) (sym last))
     c.replace.ensures
 
 pub invariant_of-self : goal.invariant_of-self
