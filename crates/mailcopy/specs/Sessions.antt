@@ -3,12 +3,14 @@ use Rattle.std.specs.Prelude.{◌≡◌, ℕ, ◌⊎◌, Some, None, Ok, Err, Op
 use Rattle.std.specs.Option.{option_map}
 use Rattle.store.specs.Limits.{MayBeLimit}
 use Rattle.store.specs.Sets.{Model, nothing}
-use Rattle.store.specs.declared.refusal.StoreRefusal.TheVariants.{RowCount}
+use Rattle.store.specs.Refusals.{listed, wrong_row_count}
 use Rattle.rows.specs.Meaning.{meaning, limit_of}
 use Rattle.mailcopy.specs.declared.answer.Answer.{Answer}
 use Rattle.mailcopy.specs.declared.answer.Answer.TheVariants.{Done}
 use Rattle.mailcopy.specs.declared.answer.Complaint.{Complaint}
 use Rattle.mailcopy.specs.declared.answer.Complaint.TheVariants.{Refused, NoCopy}
+use Rattle.mailcopy.specs.declared.answer.Failure.{Failure}
+use Rattle.mailcopy.specs.declared.answer.Failure.TheVariants as failure
 use Rattle.mailcopy.specs.declared.call.Call.{Call}
 use Rattle.mailcopy.specs.declared.call.Call.TheVariants.{MakeRows, Store}
 use Rattle.mailcopy.specs.declared.call.StoreCall.{StoreCall}
@@ -29,12 +31,12 @@ Outcome = Result Answer Complaint
 -- what comes of a call on a store, where a refusal of the store becomes a complaint
 abbrev pub told : Performed → Outcome
 told (Ok answer) = Ok answer
-told (Err refusal) = Err (Refused refusal)
+told (Err refusal) = Err (Refused (listed refusal))
 
 -- a store of n rows is wanted: it takes the place of what was there, and else refusal 1 leaves that
 pub record Makes (n : ℕ) (before after : Made) (outcome : Outcome) : Type 0 where
   pub made : MayBeLimit n → (after ≡ Some (n, nothing)) × (outcome ≡ Ok Done)
-  pub refused : (MayBeLimit n → ⊥) → (after ≡ before) × (outcome ≡ Err (Refused RowCount))
+  pub refused : (MayBeLimit n → ⊥) → (after ≡ before) × (outcome ≡ Err (Refused wrong_row_count))
 
 -- a call on the store in use, if there is one
 abbrev pub Asks : Made → StoreCall → Made → Outcome → Type 0
@@ -49,6 +51,12 @@ Steps before (Store call) after outcome = Asks before call after outcome
 abbrev pub Wanting : Made → Call → Made → Type 0
 Wanting before (MakeRows n) after = MayBeLimit n × (after ≡ before)
 Wanting before (Store call) after = ⊥
+
+-- what comes of a call: a step with its answer, or with a complaint; or memory was wanting
+abbrev pub Comes : Made → Call → Made → Result Answer Failure → Type 0
+Comes before call after (Ok answer) = Steps before call after (Ok answer)
+Comes before call after (Err (failure.Complaint complaint)) = Steps before call after (Err complaint)
+Comes before call after (Err (failure.Memory _)) = Wanting before call after
 
 -- a line makes one step by a call, or none
 abbrev pub Line : Made → Made → Type 0

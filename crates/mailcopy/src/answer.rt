@@ -1,8 +1,10 @@
 // The answers to the calls of a script, the complaints in place of one, and how they are printed.
 ghost use Rattle.std.specs.Prelude.{◌≡◌};
+ghost use Rattle.store.specs.Refusals.{listed};
 ghost use Rattle.mailcopy.specs.declared.answer.Complaint.TheVariants.{Refused};
+ghost use Rattle.mailcopy.specs.declared.answer.Failure.TheVariants as failure;
 
-use std::error::Error;
+use std::alloc::AllocError;
 use std::fmt;
 use store::{Refusal, StoreRefusal};
 
@@ -30,8 +32,8 @@ impl fmt::Display for Answer {
 /// Why a line of a script has no answer.
 #[derive(Clone, Copy, Debug, PartialEq, Eq)]
 pub enum Complaint {
-    /// The store layer refuses the call.
-    Refused(StoreRefusal),
+    /// A layer refuses the call.
+    Refused(Refusal),
     /// The line is no call, or names a set or a range that cannot exist.
     BadCall,
     /// No store has been made yet.
@@ -39,21 +41,50 @@ pub enum Complaint {
 }
 
 impl From<StoreRefusal> for Complaint {
-    ghost from_gives = { λ e c. c ≡ Refused e };
+    ghost from_gives = { λ e c. c ≡ Refused (listed e) };
 
     fn from(refusal: StoreRefusal) -> Complaint {
-        Complaint::Refused(refusal)
+        Complaint::Refused(refusal.into())
     }
 }
 
 impl fmt::Display for Complaint {
     fn fmt<W: fmt::Write>(&self, f: &mut fmt::Formatter<W>) -> fmt::Result {
         match self {
-            Complaint::Refused(refusal) => write!(f, "refused {}", Refusal::from(*refusal)),
+            Complaint::Refused(refusal) => write!(f, "refused {refusal}"),
             Complaint::BadCall => write!(f, "bad call"),
             Complaint::NoCopy => write!(f, "no copy"),
         }
     }
 }
 
-impl Error for Complaint {}
+/// Why a call gives no answer: a complaint, which is told in place of one, or want of memory.
+#[derive(Clone, Copy, Debug, PartialEq, Eq)]
+pub enum Failure {
+    Complaint(Complaint),
+    Memory(AllocError),
+}
+
+impl From<Complaint> for Failure {
+    ghost from_gives = { λ c f. f ≡ failure.Complaint c };
+
+    fn from(complaint: Complaint) -> Failure {
+        Failure::Complaint(complaint)
+    }
+}
+
+impl From<StoreRefusal> for Failure {
+    ghost from_gives = { λ e f. f ≡ failure.Complaint (Refused (listed e)) };
+
+    fn from(refusal: StoreRefusal) -> Failure {
+        Failure::Complaint(refusal.into())
+    }
+}
+
+impl From<AllocError> for Failure {
+    ghost from_gives = { λ e f. f ≡ failure.Memory e };
+
+    fn from(error: AllocError) -> Failure {
+        Failure::Memory(error)
+    }
+}

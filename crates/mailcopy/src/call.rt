@@ -1,4 +1,7 @@
 // The calls of a script: reading them from a line, and printing them in normal form.
+ghost use Rattle.std.specs.Prelude.{◌≡◌, MatchResult};
+ghost use Rattle.mailcopy.specs.declared.answer.Complaint.TheVariants.{BadCall};
+
 use crate::answer::Complaint;
 use crate::words::Words;
 use std::fmt;
@@ -71,6 +74,8 @@ fn whole_call(words: &mut Words) -> Option<Call> {
 impl TryFrom<&[u8]> for Call {
     type Error = Complaint;
 
+    ghost try_from_gives = { λ _ r. MatchResult r (λ _. Unit {0}) (λ c. c ≡ BadCall) };
+
     fn try_from(line: &[u8]) -> Result<Call, Complaint> {
         whole_call(&mut Words::of(line)).ok_or(Complaint::BadCall)
     }
@@ -79,20 +84,8 @@ impl TryFrom<&[u8]> for Call {
 impl fmt::Display for StoreCall {
     fn fmt<W: fmt::Write>(&self, f: &mut fmt::Formatter<W>) -> fmt::Result {
         match self {
-            StoreCall::Put(set, range) => write!(
-                f,
-                "put {} {} {}",
-                set.number(),
-                range.low(),
-                range.high()
-            ),
-            StoreCall::Take(set, range) => write!(
-                f,
-                "take {} {} {}",
-                set.number(),
-                range.low(),
-                range.high()
-            ),
+            StoreCall::Put(set, range) => write!(f, "put {} {range}", set.number()),
+            StoreCall::Take(set, range) => write!(f, "take {} {range}", set.number()),
             StoreCall::Move(from, to) => write!(f, "move {} {}", from.number(), to.number()),
             StoreCall::Clear(set) => write!(f, "clear {}", set.number()),
             StoreCall::Query(set, id) => write!(f, "query {} {id}", set.number()),

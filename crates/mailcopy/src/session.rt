@@ -1,16 +1,14 @@
 // The store that a script works on, and its lines one by one.
-ghost use Rattle.std.specs.Prelude.{◌≡◌, None, MatchResult};
-ghost use Rattle.mailcopy.specs.Sessions.{made_so_far, Makes, Asks, Steps, Wanting, Line};
-ghost use Rattle.store.specs.Limits.{MayBeLimit};
+ghost use Rattle.std.specs.Prelude.{◌≡◌, None};
+ghost use Rattle.mailcopy.specs.Sessions.{made_so_far, Asks, Comes, Line};
+ghost use Rattle.mailcopy.specs.declared.call.Call.TheVariants.{MakeRows};
 
-use crate::answer::{Answer, Complaint};
+use crate::answer::{Answer, Complaint, Failure};
 use crate::call::{Call, StoreCall};
 use crate::perform::perform;
 use crate::words::{Words, write_words};
 use rows::{Row, RowStore};
 use std::alloc::{AllocError, Global};
-use std::io;
-use std::io::Write;
 use store::{InMemory, Limit, Memory};
 
 /// What a script has made so far.
@@ -33,17 +31,14 @@ impl Session {
     }
 
     // A store of so many rows in place of what was there, which a refusal leaves. No rows are asked for that no store can have.
-    fn make_rows(&mut self, heap: Global, n: u64) -> Result<Result<Answer, Complaint>, AllocError>
-        ensures { MatchResult result (Makes n (made_so_far self.old) (made_so_far self.new)) (λ _. MayBeLimit n × (made_so_far self.new ≡ made_so_far self.old)) }
+    fn make_rows(&mut self, heap: Global, n: u64) -> Result<Answer, Failure>
+        ensures { Comes (made_so_far self.old) (MakeRows n) (made_so_far self.new) result }
     {
-        let limit = match Limit::try_from(n) {
-            Ok(limit) => limit,
-            Err(refusal) => return Ok(Err(refusal.into())),
-        };
+        let limit = Limit::try_from(n)?;
         let rows = vec![in heap; Row::default(); limit.ranges()]?;
         let memory = Memory::new(rows).unwrap();
         self.store = Some(RowStore::new(memory));
-        Ok(Ok(Answer::Done))
+        Ok(Answer::Done)
     }
 
     // A call on the store that is in use.
@@ -54,17 +49,22 @@ impl Session {
         Ok(perform(store, call)?)
     }
 
-    fn answer(&mut self, heap: Global, call: Call) -> Result<Result<Answer, Complaint>, AllocError>
-        ensures { MatchResult result (Steps (made_so_far self.old) call (made_so_far self.new)) (λ _. Wanting (made_so_far self.old) call (made_so_far self.new)) }
+    fn answer(&mut self, heap: Global, call: Call) -> Result<Answer, Failure>
+        ensures { Comes (made_so_far self.old) call (made_so_far self.new) result }
     {
         match call {
             Call::MakeRows(n) => self.make_rows(heap, n),
-            Call::Store(call) => Ok(self.ask(call)),
+            Call::Store(call) => Ok(self.ask(call)?),
         }
     }
 
     /// Adds to `out` what a line of a script prints: its call, the answer or the complaint, and a line's end; nothing for a blank line or a comment.
-    pub fn answer_line(&mut self, heap: Global, line: &[u8], out: &mut Vec<u8>) -> io::Result<()>
+    pub fn answer_line(
+        &mut self,
+        heap: Global,
+        line: &[u8],
+        out: &mut Vec<u8>,
+    ) -> Result<(), AllocError>
         ensures { Line (made_so_far self.old) (made_so_far self.new) }
     {
         if is_skipped(line) {
@@ -72,17 +72,19 @@ impl Session {
         }
         let outcome = match Call::try_from(line) {
             Ok(call) => {
-                write!(out, "{call}")?;
-                self.answer(heap, call)?
+                out.extend_from_slice(call.to_string(heap)?.as_bytes())?;
+                self.answer(heap, call)
             }
             Err(complaint) => {
                 write_words(line, out)?;
-                Err(complaint)
+                Err(complaint.into())
             }
         };
-        match outcome {
-            Ok(answer) => writeln!(out, " => {answer}"),
-            Err(complaint) => writeln!(out, " => {complaint}"),
-        }
+        let told = match outcome {
+            Ok(answer) => format!(in heap; " => {answer}\n")?,
+            Err(Failure::Complaint(complaint)) => format!(in heap; " => {complaint}\n")?,
+            Err(Failure::Memory(error)) => return Err(error),
+        };
+        out.extend_from_slice(told.as_bytes())
     }
 }

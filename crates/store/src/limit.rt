@@ -19,7 +19,7 @@ impl TryFrom<u64> for Limit {
     ghost try_from_gives = { λ n r. MatchResult r (λ x. MayBeLimit n × (x.ranges ≡ n)) (λ e. (listed e ≡ wrong_row_count) × (MayBeLimit n → ⊥)) };
 
     fn try_from(ranges: u64) -> Result<Limit, StoreRefusal> {
-        if ranges >= 64 && ranges <= 65535 {
+        if (64..=65535).contains(&ranges) {
             Ok(Limit {
                 ranges: ranges as usize,
             })

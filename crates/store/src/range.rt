@@ -2,6 +2,8 @@
 ghost use Rattle.std.specs.Prelude.{◌≡◌, ◌+◌, ◌-◌, ◌/◌, ◌^◌, ◌<◌, ◌≤◌, min, max, Some, None, if◌then◌else◌, nat_lt, MatchOption};
 ghost use Rattle.store.specs.Ids.{Lawful, replid};
 
+use std::fmt;
+
 /// How many counters a REPLID has. An ID is REPLID × COUNTERS + counter, so it is also the lowest ID.
 pub const COUNTERS: u64 = 0x1_0000_0000_0000;
 
@@ -13,6 +15,13 @@ pub struct Range {
     ghost paired: { 2 ^ 48 ≤ low },
     ghost rising: { low ≤ high },
     ghost single: { replid low ≡ replid high },
+}
+
+/// Its lowest and its highest ID, with a space between.
+impl fmt::Display for Range {
+    fn fmt<W: fmt::Write>(&self, f: &mut fmt::Formatter<W>) -> fmt::Result {
+        write!(f, "{} {}", self.low, self.high)
+    }
 }
 
 impl Range {
