@@ -1,5 +1,5 @@
 -- What a script has made, and what each of its calls makes of that and answers.
-use Rattle.std.specs.Prelude.{◌≡◌, ℕ, ◌⊎◌, Some, None, Ok, Err, Option, Result}
+use Rattle.std.specs.Prelude.{◌≡◌, ℕ, ◌⊎◌, List, ◌++◌, Some, None, Ok, Err, Option, Result, OnOk}
 use Rattle.std.specs.Option.{option_map}
 use Rattle.store.specs.Limits.{MayBeLimit}
 use Rattle.store.specs.Sets.{Model, nothing}
@@ -16,6 +16,7 @@ use Rattle.mailcopy.specs.declared.call.Call.TheVariants.{MakeRows, Store}
 use Rattle.mailcopy.specs.declared.call.StoreCall.{StoreCall}
 use Rattle.mailcopy.specs.declared.session.Session.{Session}
 use Rattle.mailcopy.specs.Performs.{Performed, Performs}
+use Rattle.mailcopy.specs.Prints.{line_text}
 
 -- the limit and the sets of the store that is in use, if one has been made
 abbrev pub Made : Type 0
@@ -58,6 +59,7 @@ Comes before call after (Ok answer) = Steps before call after (Ok answer)
 Comes before call after (Err (failure.Complaint complaint)) = Steps before call after (Err complaint)
 Comes before call after (Err (failure.Memory _)) = Wanting before call after
 
--- a line makes one step by a call, or none
-abbrev pub Line : Made → Made → Type 0
-Line before after = (after ≡ before) ⊎ ((call : Call) × (outcome : Outcome) × Steps before call after outcome)
+-- a line makes one step by a call, and prints behind what was printed the call with what comes of it; or it makes none
+abbrev pub Line : {X Y : Type 0} → Made → Made → List ℕ → List ℕ → Result X Y → Type 0
+Line before after printed now result =
+    (after ≡ before) ⊎ ((call : Call) × (outcome : Outcome) × Steps before call after outcome × OnOk result (now ≡ printed ++ line_text call outcome))

@@ -18,6 +18,11 @@ pub enum Answer {
 }
 
 impl fmt::Display for Answer {
+    ghost use Rattle.std.specs.Prelude.{Some};
+    ghost use Rattle.mailcopy.specs.Prints.{answer_text};
+
+    ghost output = { λ x. Some (answer_text x) };
+
     fn fmt<W: fmt::Write>(&self, f: &mut fmt::Formatter<W>) -> fmt::Result {
         match self {
             Answer::Done => write!(f, "ok"),
@@ -49,6 +54,11 @@ impl From<StoreRefusal> for Complaint {
 }
 
 impl fmt::Display for Complaint {
+    ghost use Rattle.std.specs.Prelude.{Some};
+    ghost use Rattle.mailcopy.specs.Prints.{complaint_text};
+
+    ghost output = { λ x. Some (complaint_text x) };
+
     fn fmt<W: fmt::Write>(&self, f: &mut fmt::Formatter<W>) -> fmt::Result {
         match self {
             Complaint::Refused(refusal) => write!(f, "refused {refusal}"),

@@ -82,6 +82,11 @@ impl TryFrom<&[u8]> for Call {
 }
 
 impl fmt::Display for StoreCall {
+    ghost use Rattle.std.specs.Prelude.{Some};
+    ghost use Rattle.mailcopy.specs.Prints.{store_call_text};
+
+    ghost output = { λ x. Some (store_call_text x) };
+
     fn fmt<W: fmt::Write>(&self, f: &mut fmt::Formatter<W>) -> fmt::Result {
         match self {
             StoreCall::Put(set, range) => write!(f, "put {} {range}", set.number()),
@@ -98,6 +103,11 @@ impl fmt::Display for StoreCall {
 
 /// A call in normal form: one space between words, numbers in decimal without leading zeros.
 impl fmt::Display for Call {
+    ghost use Rattle.std.specs.Prelude.{Some};
+    ghost use Rattle.mailcopy.specs.Prints.{call_text};
+
+    ghost output = { λ x. Some (call_text x) };
+
     fn fmt<W: fmt::Write>(&self, f: &mut fmt::Formatter<W>) -> fmt::Result {
         match self {
             Call::MakeRows(n) => write!(f, "make rows {n}"),

@@ -65,25 +65,21 @@ impl Session {
         line: &[u8],
         out: &mut Vec<u8>,
     ) -> Result<(), AllocError>
-        ensures { Line (made_so_far self.old) (made_so_far self.new) }
+        ensures { Line (made_so_far self.old) (made_so_far self.new) out.old.items out.new.items result }
     {
         if is_skipped(line) {
             return Ok(());
         }
-        let outcome = match Call::try_from(line) {
-            Ok(call) => {
-                out.extend_from_slice(call.to_string(heap)?.as_bytes())?;
-                self.answer(heap, call)
-            }
+        let told = match Call::try_from(line) {
+            Ok(call) => match self.answer(heap, call) {
+                Ok(answer) => format!(in heap; "{call} => {answer}\n")?,
+                Err(Failure::Complaint(complaint)) => format!(in heap; "{call} => {complaint}\n")?,
+                Err(Failure::Memory(error)) => return Err(error),
+            },
             Err(complaint) => {
                 write_words(line, out)?;
-                Err(complaint.into())
+                format!(in heap; " => {complaint}\n")?
             }
-        };
-        let told = match outcome {
-            Ok(answer) => format!(in heap; " => {answer}\n")?,
-            Err(Failure::Complaint(complaint)) => format!(in heap; " => {complaint}\n")?,
-            Err(Failure::Memory(error)) => return Err(error),
         };
         out.extend_from_slice(told.as_bytes())
     }

@@ -5,3 +5,4 @@ pub mod Ranges
 pub mod Sets
 pub mod Changes
 pub mod Laws
+pub mod Prints

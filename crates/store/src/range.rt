@@ -19,6 +19,11 @@ pub struct Range {
 
 /// Its lowest and its highest ID, with a space between.
 impl fmt::Display for Range {
+    ghost use Rattle.std.specs.Prelude.{Some};
+    ghost use Rattle.store.specs.Prints.{range_text};
+
+    ghost output = { λ r. Some (range_text r) };
+
     fn fmt<W: fmt::Write>(&self, f: &mut fmt::Formatter<W>) -> fmt::Result {
         write!(f, "{} {}", self.low, self.high)
     }

@@ -16,6 +16,11 @@ pub enum Layer {
 }
 
 impl fmt::Display for Layer {
+    ghost use Rattle.std.specs.Prelude.{Some};
+    ghost use Rattle.store.specs.Prints.{layer_text};
+
+    ghost output = { λ l. Some (layer_text l) };
+
     fn fmt<W: fmt::Write>(&self, f: &mut fmt::Formatter<W>) -> fmt::Result {
         f.write_str(match self {
             Layer::Store => "store",
@@ -36,6 +41,11 @@ pub struct Refusal {
 
 /// The number and the layer, as in `25 store`.
 impl fmt::Display for Refusal {
+    ghost use Rattle.std.specs.Prelude.{Some};
+    ghost use Rattle.store.specs.Prints.{refusal_text};
+
+    ghost output = { λ r. Some (refusal_text r) };
+
     fn fmt<W: fmt::Write>(&self, f: &mut fmt::Formatter<W>) -> fmt::Result {
         write!(f, "{} {}", self.number, self.layer)
     }
