@@ -8,13 +8,14 @@ mod workload;
 
 use cells::CellStore;
 use measure::measure;
+use perform::Digest;
 use rows::RowStore;
 use std::{env, io};
 use store::InMemory;
 use workload::Workload;
 
-// The digest of a first run with all ranges after it, and then the nanoseconds of each further one.
-fn report<S: InMemory + Drop>(rt: &HostRuntime, workload: &Workload, runs: u32) -> io::Result<()>
+// A first run, and the digest of its answers; prints that digest with all ranges after the run.
+fn report_digest<S: InMemory + Drop>(rt: &HostRuntime, workload: &Workload) -> io::Result<Digest>
 where
     S::Place: Copy + Default,
 {
@@ -22,12 +23,21 @@ where
     let mut digest = first.answers;
     digest.add_all_ranges(&first.store);
     println!(rt; "digest {digest}")?;
+    Ok(first.answers)
+}
+
+// The digest of a first run, and then the nanoseconds of each further one, which has to answer the same.
+fn report<S: InMemory + Drop>(rt: &HostRuntime, workload: &Workload, runs: u32) -> io::Result<()>
+where
+    S::Place: Copy + Default,
+{
+    let answers = report_digest::<S>(rt, workload)?;
     for _ in 0..runs {
-        let next = measure::<S>(rt, workload)?;
-        if next.answers != first.answers {
+        let run = measure::<S>(rt, workload)?;
+        if run.answers != answers {
             return Err(io::Error::other("two runs answered differently"));
         }
-        println!(rt; "nanoseconds {}", next.nanoseconds)?;
+        println!(rt; "nanoseconds {}", run.nanoseconds)?;
     }
     Ok(())
 }

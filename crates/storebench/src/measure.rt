@@ -21,10 +21,7 @@ where
     S::Place: Copy + Default,
 {
     let places = vec![in rt.alloc(); S::Place::default(); LIMIT]?;
-    match Memory::new(places) {
-        Ok(memory) => Ok(S::new(memory)),
-        Err(_) => Err(io::Error::other("no store of so many places")),
-    }
+    Ok(S::new(Memory::new(places).unwrap()))
 }
 
 /// A run over a new store of a make.
