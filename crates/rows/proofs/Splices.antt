@@ -1,5 +1,5 @@
 -- A part of a list replaced by another list.
-use Rattle.std.proofs.Common.{◌≡◌, ℕ, suc, ◌+◌, ◌-◌, ◌≤◌, List, [], ◌∷◌, ◌++◌, length, take, drop, sym, refl, ap, ◌∙◌, append_assoc, arith, length-append, length-drop}
+use Rattle.std.proofs.Common.{◌≡◌, ℕ, suc, ◌+◌, ◌-◌, ◌≤◌, List, [], ◌∷◌, ◌++◌, length, take, drop, sym, refl, ap, ◌∙◌, append_assoc, arith, length-drop}
 use lib.Seq.{paste}
 use borrow.Rule.Slice.PartMut.{put_mid, post_of}
 use Rattle.std.proofs.lemmas.List.{take-append-le, take-take, take_at, drop_at, drop-drop, drop-take, length-take-le}
@@ -31,25 +31,15 @@ module _ {X : Type 0} (xs : List X) where
   behind_same to used h = let is : to + (used - to) ≡ used = omega arith in sym (drop-take to (used - to) xs) ∙ ap (λ k. drop to (take k xs)) is
 
   -- the part written over
-  written : (ys zs old : List X) (from to used len : ℕ) → from ≤ to → to ≤ used → used ≤ length xs → length ys ≡ len → from + length zs + (used - to) ≤ len → take from ys ≡ take from xs → take (used - to) (drop (from + length zs) ys) ≡ drop to (take used xs)
-      → take (from + length zs + (used - to)) (take len (put_mid from (from + length zs - from) ys zs ++ drop (length (put_mid from (from + length zs - from) ys zs)) old)) ≡ take from (take used xs) ++ (zs ++ drop to (take used xs))
-  written ys zs old from to used len p q l e room front back =
+  pub written : (ys zs : List X) (from to used : ℕ) → from ≤ to → to ≤ used → used ≤ length xs → from + length zs + (used - to) ≤ length ys → take from ys ≡ take from xs → take (used - to) (drop (from + length zs) ys) ≡ drop to (take used xs)
+      → take (from + length zs + (used - to)) (put_mid from (from + length zs - from) ys zs) ≡ take from (take used xs) ++ (zs ++ drop to (take used xs))
+  written ys zs from to used p q l room front back =
       let m = used - to in
       let k = from + length zs - from in
       let a : length (take from ys) ≡ from = length-take-le from ys (omega arith) in
       let kk : k ≡ length zs = omega arith in
       let rest : post_of from k ys ≡ drop (from + length zs) ys = drop-drop k from ys ∙ ap (λ i. drop (from + i) ys) kk in
-      let long : length (put_mid from k ys zs) ≡ len = ap (λ z. length (take from ys ++ (zs ++ z))) rest ∙ omega (arith, a, length-append (take from ys) (zs ++ drop (from + length zs) ys), length-append zs (drop (from + length zs) ys), length-drop (from + length zs) ys) in
-      ap (take (from + length zs + m)) (take_at (put_mid from k ys zs) (drop (length (put_mid from k ys zs)) old) len long)
-      ∙ ap (λ z. take (from + length zs + m) (take from ys ++ (zs ++ z))) rest
+      ap (λ z. take (from + length zs + m) (take from ys ++ (zs ++ z))) rest
       ∙ take_past (take from ys) (zs ++ drop (from + length zs) ys) (length zs + m) (from + length zs + m) (omega arith)
       ∙ ap (λ z. take from ys ++ z) (take_past zs (drop (from + length zs) ys) m (length zs + m) refl ∙ ap (λ z. zs ++ z) back)
       ∙ ap (λ z. z ++ (zs ++ drop to (take used xs))) (front ∙ sym (take-take from used xs (omega arith)))
-
-  -- the same, with the part as a copy left it
-  pub written_over : (ys now_ys new zs old : List X) (from to used len : ℕ) → now_ys ≡ ys → zs ≡ new → from ≤ to → to ≤ used → used ≤ length xs → length ys ≡ len → from + length new + (used - to) ≤ len → take from ys ≡ take from xs → take (used - to) (drop (from + length new) ys) ≡ drop to (take used xs)
-      → take (from + length new + (used - to)) (take len (put_mid from (from + length new - from) now_ys zs ++ drop (length (put_mid from (from + length new - from) now_ys zs)) old)) ≡ take from (take used xs) ++ (new ++ drop to (take used xs))
-  written_over ys now_ys new zs old from to used len a b p q l e room front back =
-      ap (λ y. take (from + length new + (used - to)) (take len (put_mid from (from + length new - from) y zs ++ drop (length (put_mid from (from + length new - from) y zs)) old))) a
-      ∙ ap (λ z. take (from + length new + (used - to)) (take len (put_mid from (from + length new - from) ys z ++ drop (length (put_mid from (from + length new - from) ys z)) old))) b
-      ∙ written ys new old from to used len p q l e room front back

@@ -8,12 +8,12 @@ use crate::table::{Stretch, Table};
 use store::StoreRefusal;
 
 // Of the first `used` rows those of the stretch give way to `new`; the others move only if the number changes.
-fn splice(rows: &mut Vec<Row>, used: usize, gone: Stretch, new: &[Row])
+fn splice(rows: &mut [Row], used: usize, gone: Stretch, new: &[Row])
     requires to { gone.to ≤ used }
-    requires used { used ≤ vec_len rows.old }
-    requires room { gone.from + length new.now + (used - gone.to) ≤ vec_len rows.old }
-    ensures len { vec_len rows.new ≡ vec_len rows.old }
-    ensures items { take (gone.from + length new.now + (used - gone.to)) rows.new.items ≡ spliced gone.from gone.to new.now (take used rows.old.items) }
+    requires used { used ≤ length rows.old }
+    requires room { gone.from + length new.now + (used - gone.to) ≤ length rows.old }
+    ensures len { length rows.new ≡ length rows.old }
+    ensures items { take (gone.from + length new.now + (used - gone.to)) rows.new ≡ spliced gone.from gone.to new.now (take used rows.old) }
 {
     let end = gone.from + new.len();
     if end != gone.to {

@@ -1,5 +1,5 @@
 // Where rows stand: binary search on the line of all labels and IDs.
-ghost use Rattle.std.specs.Prelude.{◌≡◌, ◌<◌, ◌≤◌, length};
+ghost use Rattle.std.specs.Prelude.{◌≡◌, ◌+◌, ◌<◌, ◌≤◌, length};
 ghost use Rattle.std.specs.List.Sorted.{IsPartitionPoint};
 ghost use Rattle.store.specs.Ranges.{next_range};
 ghost use Rattle.rows.specs.Rows.{spot, begins_at, ends_at, ranges};
@@ -12,11 +12,27 @@ use store::COUNTERS;
 // How far apart on the line two labels begin: further than all IDs with a gap for each replica.
 const LABEL_SPAN: u128 = 0x4_0000_0000_0000_0000;
 
-/// Where an ID under a label stands on one line, on which IDs under two labels and IDs of two replicas are never neighbours.
-pub(crate) fn spot(label: u8, id: u64) -> u128
+// Where an ID under a label stands on one line, on which IDs under two labels and IDs of two replicas are never neighbours.
+fn spot(label: u8, id: u64) -> u128
     ensures { result ≡ spot label id }
 {
     u128::from(label) * LABEL_SPAN + u128::from(id) + u128::from(id / COUNTERS)
+}
+
+impl Label {
+    /// Where an ID under this label stands.
+    pub(crate) fn spot(self, id: u64) -> u128
+        ensures { result ≡ spot self.value id }
+    {
+        spot(self.value, id)
+    }
+
+    /// Where the next label begins.
+    pub(crate) fn end(self) -> u128
+        ensures { result ≡ spot (self.value + 1) 0 }
+    {
+        spot(self.value + 1, 0)
+    }
 }
 
 impl Row {
@@ -72,7 +88,7 @@ impl Table {
     pub(crate) fn next(&self, label: Label, n: u64) -> Option<(u64, u64)>
         ensures { result ≡ next_range (ranges label.value (rows_of self.now)) n }
     {
-        let found = self.ending_before(spot(label.value, n));
+        let found = self.ending_before(label.spot(n));
         match self.in_use().get(found) {
             Some(row) if row.label == label.value => Some((row.low, row.high)),
             _ => None,
