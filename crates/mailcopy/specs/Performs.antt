@@ -15,7 +15,7 @@ use Rattle.mailcopy.specs.declared.call.StoreCall.TheVariants.{Put, Take, Move, 
 abbrev pub Performed : Type 0
 Performed = Result Answer StoreRefusal
 
--- other sets are wanted: they are there where they fit the limit, and else refusal 25 leaves all as it was
+-- other sets are wanted: they are there where they fit the limit, and else the refusal as full leaves all as it was
 pub record Wanted (limit : ℕ) (before wanted after : Model) (outcome : Performed) : Type 0 where
   pub fits : total wanted ≤ limit → (after ≡ wanted) × (outcome ≡ Ok Done)
   pub full : limit < total wanted → (after ≡ before) × (outcome ≡ Err Full)
