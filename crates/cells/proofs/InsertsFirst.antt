@@ -4,9 +4,9 @@ use Rattle.std.proofs.lemmas.Bool.{cases_eq, cond-true, cond-false, eq-eqb, ne_e
 use Rattle.std.proofs.lemmas.List.{get_or-set_same}
 use Rattle.cells.specs.declared.cell.Cell.{Cell}
 use Rattle.cells.specs.declared.cell.Ends.{Ends}
-use Rattle.cells.specs.Links.{cell, ends, numbers, final, link, relinked, with_link, Linked, spans}
+use Rattle.cells.specs.Links.{cell, ends, numbers, final, Linked, spans}
 use Rattle.cells.specs.Segs.{Seg, Out, Chain, Splits, chain_at, chain_frame, once, seg_at, seg_frame, final_any, last_of_free, out_final, spans_out, spans_put}
-use Rattle.cells.specs.Relinks.{Change, make, elsewhere, last_is_in, first_inside}
+use Rattle.cells.specs.Relinks.{link, relinked, with_link, Change, make, elsewhere, last_is_in, first_inside}
 use Rattle.cells.specs.Chains.{before_place}
 use Rattle.cells.proofs.Inserts.{After, first_from, inserted}
 

@@ -5,10 +5,10 @@ use Rattle.std.proofs.lemmas.Bool.{cases_eq, cond-true, cond-false, eq-eqb, ne_e
 use Rattle.std.proofs.lemmas.List.{length-take-le}
 use Rattle.cells.specs.declared.cell.Cell.{Cell}
 use Rattle.cells.specs.declared.cell.Ends.{Ends}
-use Rattle.cells.specs.Links.{cell, ends, path, final, numbers, link, relinked, with_link, Linked, spans}
+use Rattle.cells.specs.Links.{cell, ends, path, final, numbers, Linked, spans}
 use Rattle.cells.specs.Segs.{Seg, Out, Chain, Splits, chain_at, chain_frame, once, seg_at, seg_frame, seg_join, final-++, final_any, last_of_free, out_final, spans_keep, spans-drop, parts_before}
 use Rattle.cells.specs.Chains.{before_place}
-use Rattle.cells.specs.Relinks.{Change, Made, make, elsewhere, last_is_in}
+use Rattle.cells.specs.Relinks.{link, relinked, with_link, Change, Made, make, elsewhere, last_is_in}
 use Rattle.cells.proofs.RemovesAfter.{After, longer, removed}
 
 module _ (cs : List Cell) (es : List Ends) (s n p : ℕ) (a b : List ℕ) (v : Cell) where

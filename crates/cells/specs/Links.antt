@@ -9,7 +9,7 @@
 -- * Ending: the cell that is kept as a chain's last is the last one on it.
 -- * Parted: two chains that have cells have different last ones. So no cell is on two chains, since both would go on alike from there, and end in the same cell.
 -- * the chains have as many cells together as the memory has. So no cell is on none.
-use Rattle.std.specs.Prelude.{◌≡◌, ℕ, zero, suc, ◌+◌, ◌<◌, Bool, true, ◌&&◌, List, [], ◌∷◌, length, Some, None, Option, nat_le, nat_lt, slice_index, slice_index_or, slice_set}
+use Rattle.std.specs.Prelude.{◌≡◌, ℕ, zero, suc, ◌+◌, ◌<◌, Bool, true, ◌&&◌, List, [], ◌∷◌, length, nat_le, nat_lt, slice_index, slice_index_or}
 use Rattle.store.specs.Ranges.{Span}
 use Rattle.cells.specs.declared.cell.Cell.{Cell}
 use Rattle.cells.specs.declared.cell.Ends.{Ends}
@@ -38,20 +38,6 @@ final d (x ∷ l) = final x l
 -- the cells of a chain
 abbrev pub numbers : List Cell → List Ends → ℕ → List ℕ
 numbers cs es k = path cs (ends es k).count (ends es k).first
-
--- the number that a gap is linked to, by the cell before it, or before the first cell
-abbrev pub link : List Cell → Ends → Option ℕ → ℕ
-link cs e None = e.first
-link cs e (Some p) = (cell cs p).next
-
--- the cells, and the ends of the chain, with the gap linked to i
-abbrev pub relinked : List Cell → Option ℕ → ℕ → List Cell
-relinked cs None i = cs
-relinked cs (Some p) i = slice_set cs p (record { low = (cell cs p).low; high = (cell cs p).high; next = i })
-
-abbrev pub with_link : Ends → Option ℕ → ℕ → Ends
-with_link e None i = record { first = i; last = e.last; count = e.count }
-with_link e (Some p) i = e
 
 -- how many cells the chains have together
 abbrev pub sum : List Ends → ℕ

@@ -1,5 +1,5 @@
--- Two chains changed, and the others left.
-use Rattle.std.specs.Prelude.{◌≡◌, ℕ, zero, suc, ◌+◌, ◌<◌, ◌≤◌, true, ◌⊎◌, List, [], ◌∷◌, length, ◌≢◌, slice_index, slice_set, refl}
+-- A gap linked to another cell; and two chains changed, and the others left.
+use Rattle.std.specs.Prelude.{◌≡◌, ℕ, zero, suc, ◌+◌, ◌<◌, ◌≤◌, true, ◌⊎◌, List, [], ◌∷◌, length, Some, None, Option, ◌≢◌, slice_index, slice_set, refl}
 use Rattle.std.proofs.Common.{sym, ap, subst, ◌∙◌, ⊎_elim, arith, length-set}
 use Rattle.std.proofs.lemmas.Bool.{ltb-true, and_parts, cases_eq}
 use Rattle.std.proofs.lemmas.List.{get_or-set_same, get_or-set_other}
@@ -8,6 +8,20 @@ use Rattle.cells.specs.declared.cell.Ends.{Ends}
 use Rattle.store.specs.Ranges.{Span}
 use Rattle.cells.specs.Links.{cell, ends, path, runs, final, numbers, sum, Running, Ending, Parted, Linked, spans}
 use Rattle.cells.specs.Segs.{Seg, Out, Chain, Splits, chain_at, chain_path, chain_runs, across, final_in, out_final, seg_at}
+
+-- the number that a gap is linked to, by the cell before it, or before the first cell
+abbrev pub link : List Cell → Ends → Option ℕ → ℕ
+link cs e None = e.first
+link cs e (Some p) = (cell cs p).next
+
+-- the cells, and the ends of the chain, with the gap linked to i
+abbrev pub relinked : List Cell → Option ℕ → ℕ → List Cell
+relinked cs None i = cs
+relinked cs (Some p) i = slice_set cs p (record { low = (cell cs p).low; high = (cell cs p).high; next = i })
+
+abbrev pub with_link : Ends → Option ℕ → ℕ → Ends
+with_link e None i = record { first = i; last = e.last; count = e.count }
+with_link e (Some p) i = e
 
 pub sum-set : (es : List Ends) (i : ℕ) (e : Ends) → i < length es → sum (slice_set es i e) + (ends es i).count ≡ sum es + e.count
 sum-set [] i e h = absurd (omega arith)

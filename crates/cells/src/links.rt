@@ -1,6 +1,7 @@
 // Cells linked into a chain and out of it. Each change moves cells between one set's chain and the free one, or exchanges two chains.
 ghost use Rattle.std.specs.Prelude.{◌≡◌, ℕ, ◌+◌, ◌-◌, ◌<◌, IfSome, [], ◌∷◌, ◌++◌, take, drop, vec_len};
-ghost use Rattle.cells.specs.Links.{cell, link, relinked, with_link};
+ghost use Rattle.cells.specs.Links.{cell};
+ghost use Rattle.cells.specs.Relinks.{link, relinked, with_link};
 ghost use Rattle.cells.specs.Chains.{ranges_of, free_of, Stands, Follow, Changed};
 
 use crate::cell::{Cell, Ends};
@@ -48,7 +49,7 @@ impl Chains {
         let Memory { places: mut cells } = memory;
         let n = cells.len();
         link_all(&mut cells);
-        // Each set's links end at once, in the number behind the last cell's.
+        // The chain of a set has no cell yet: its links end at once, in `n`. That is the number of cells, so no cell has it: they count from 0.
         let mut ends = [Ends {
             first: n,
             last: n,
