@@ -1,5 +1,5 @@
 // Cells linked into a chain and out of it. Each change moves cells between one set's chain and the free one, or exchanges two chains.
-ghost use Rattle.std.specs.Prelude.{◌≡◌, ℕ, ◌+◌, ◌-◌, ◌<◌, IfSome, [], ◌∷◌, ◌++◌, take, drop, vec_len};
+ghost use Rattle.std.specs.Prelude.{◌≡◌, ℕ, ◌+◌, ◌-◌, ◌<◌, IfSome, [], ◌∷◌, ◌++◌, length, take, drop, vec_len};
 ghost use Rattle.cells.specs.Links.{cell};
 ghost use Rattle.cells.specs.Relinks.{link, relinked, with_link};
 ghost use Rattle.cells.specs.Chains.{ranges_of, free_of, Stands, Follow, Changed};
@@ -13,11 +13,10 @@ use store::Memory;
 const FREE: usize = 11;
 
 // Links a gap of a chain to another cell, and gives the one that it was linked to.
-fn relink(cells: &mut Vec<Cell>, ends: &mut Ends, before: Option<usize>, to: usize) -> usize
-    requires { IfSome before (λ p. p < vec_len cells.old) }
-    ensures was { result ≡ link cells.old.items ends.old before }
-    ensures len { vec_len cells.new ≡ vec_len cells.old }
-    ensures cells { cells.new.items ≡ relinked cells.old.items before to }
+fn relink(cells: &mut [Cell], ends: &mut Ends, before: Option<usize>, to: usize) -> usize
+    requires { IfSome before (λ p. p < length cells.old) }
+    ensures was { result ≡ link cells.old ends.old before }
+    ensures cells { cells.new ≡ relinked cells.old before to }
     ensures ends { ends.new ≡ with_link ends.old before to }
 {
     match before {
@@ -27,9 +26,8 @@ fn relink(cells: &mut Vec<Cell>, ends: &mut Ends, before: Option<usize>, to: usi
 }
 
 // Links each cell to the one after it in memory.
-fn link_all(cells: &mut Vec<Cell>)
-    ensures len { vec_len cells.new ≡ vec_len cells.old }
-    ensures next { (k : ℕ) → k < vec_len cells.old → (cell cells.new.items k).next ≡ k + 1 }
+fn link_all(cells: &mut [Cell])
+    ensures { (k : ℕ) → k < length cells.old → (cell cells.new k).next ≡ k + 1 }
 {
     for (i, cell) in cells.iter_mut().enumerate() {
         *cell = Cell {

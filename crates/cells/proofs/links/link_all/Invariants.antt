@@ -4,4 +4,4 @@ use Rattle.cells.specs.Links.{cell}
 use Rattle.cells.proofs.links.link_all.Given as goal
 
 abbrev pub invariant-loop-i : goal.invariant-loop-i
-invariant-loop-i l = (k : ℕ) → k < l.i → (cell l.cell-items k).next ≡ k + 1
+invariant-loop-i l = (k : ℕ) → k < l.i → (cell l.cells k).next ≡ k + 1

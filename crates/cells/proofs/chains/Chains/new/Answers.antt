@@ -1,30 +1,40 @@
 -- All cells are free.
-use Rattle.std.proofs.Common.{subst, sym, ◌≡◌, ℕ, ◌+◌, ◌<◌, length, vec_items, refl, ◌∙◌, arith}
-use Rattle.store.specs.Limits.{MayBeLimit}
+use Rattle.std.proofs.Common.{sym, ◌≡◌, ℕ, ◌+◌, ◌<◌, List, length, vec_items, vec_len, refl, ap, ◌∙◌, arith}
+use Rattle.std.specs.List.{refill, length_refill}
+use Rattle.std.proofs.lemmas.List.{take_at}
+use Rattle.cells.specs.declared.cell.Cell.{Cell}
 use Rattle.cells.specs.Links.{cell}
 use Rattle.cells.proofs.Fresh.{fresh_running, fresh_ending, fresh_parted, fresh_sum}
 use Rattle.cells.proofs.chains.Chains.new.Goals as goal
 use Rattle.cells.proofs.chains.Chains.new.Goals.{After-link_all}
 
-whole : (c : After-link_all) → length (vec_items c.link_all.new.cells) ≡ c.len-n.result
-whole c = sym c.link_all.new.cells.ok.0 ∙ c.link_all.ensures.len ∙ sym c.len-n.ensures
+-- the memory, with the cells as they have been linked
+left : After-link_all → List Cell
+left c = refill (vec_len c.args.memory.places) (vec_items c.args.memory.places) c.link_all.new.cells
+
+whole : (c : After-link_all) → length (left c) ≡ c.len-n.result
+unfolding left
+whole c = sym (length_refill (vec_len c.args.memory.places) (vec_items c.args.memory.places) c.link_all.new.cells c.args.memory.places.ok.0) ∙ sym c.len-n.ensures
 
 some : (c : After-link_all) → 0 < c.len-n.result
 some c = omega (arith, c.len-n.ensures, c.args.memory.lawful.0)
 
-next : (c : After-link_all) (k : ℕ) → k < c.len-n.result → (cell (vec_items c.link_all.new.cells) k).next ≡ k + 1
-next c k h = c.link_all.ensures.next k (omega (arith, c.len-n.ensures))
+next : (c : After-link_all) (k : ℕ) → k < c.len-n.result → (cell (left c) k).next ≡ k + 1
+unfolding left
+next c k h =
+    ap (λ t. (cell t k).next) (take_at c.link_all.new.cells _ (vec_len c.args.memory.places) (omega (arith, c.link_all.auto.cells, c.deref_mut.ensures.len)))
+    ∙ c.link_all.ensures k (omega (arith, c.len-n.ensures, c.deref_mut.ensures.len))
 
 pub invariant_of-result : goal.invariant_of-result
+unfolding left
 invariant_of-result c =
     let d = (goal.at.invariant_of-result c).After-link_all in
-    let v = vec_items c.link_all.new.cells in
     let n = c.len-n.result in
     record {
-      lawful = subst MayBeLimit (sym c.link_all.ensures.len) c.args.memory.lawful;
+      lawful = c.args.memory.lawful;
       twelve = refl;
-      running = fresh_running v n (whole d) (some d) (next d);
-      ending = fresh_ending v n (whole d) (some d) (next d);
-      parted = fresh_parted v n (whole d) (some d) (next d);
-      whole = fresh_sum 11 n ∙ c.len-n.ensures ∙ sym c.link_all.ensures.len;
+      running = fresh_running (left d) n (whole d) (some d) (next d);
+      ending = fresh_ending (left d) n (whole d) (some d) (next d);
+      parted = fresh_parted (left d) n (whole d) (some d) (next d);
+      whole = fresh_sum 11 n ∙ c.len-n.ensures;
     }

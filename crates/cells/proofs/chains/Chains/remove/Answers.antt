@@ -1,8 +1,9 @@
 -- No cells at all, or those behind the gap, which are handed to the free chain.
-use Rattle.std.proofs.Common.{subst, sym, ◌≡◌, ◌+◌, ◌-◌, ◌<◌, ◌++◌, take, drop, vec_items, refl, ap, ◌∙◌, arith, take-append-drop}
-use Rattle.std.proofs.lemmas.List.{get_or_read}
-use Rattle.store.specs.Limits.{MayBeLimit}
+use Rattle.std.proofs.Common.{subst, sym, ◌≡◌, ◌+◌, ◌-◌, ◌<◌, ◌++◌, take, drop, IfSome, vec_items, vec_len, refl, ap, ◌∙◌, arith, take-append-drop}
+use Rattle.std.specs.List.{refill, length_refill}
+use Rattle.std.proofs.lemmas.List.{get_or_read, take_at}
 use Rattle.cells.specs.Links.{ends}
+use Rattle.cells.specs.Relinks.{relinked}
 use Rattle.cells.specs.Chains.{ranges_of}
 use Rattle.cells.specs.Held.{linked, long, before_fits, end_fits, both_fit, read, changed, still_stands, unchanged}
 use Rattle.cells.proofs.RemovesAfter.{After, longer}
@@ -21,10 +22,10 @@ pub index-requires : goal.index-requires
 index-requires c = end_fits c.args.self.now c.args.chain.number c.args.run c.args.chain.small (omega (arith, c.if-ends-eq0.false)) c.requires.follow
 
 pub relink-requires : goal.relink-requires
-relink-requires c = before_fits c.args.self.now c.args.chain.number c.args.run.gap c.args.chain.small c.requires.stands
+relink-requires c = subst (λ n. IfSome c.args.run.gap.before (λ p. p < n)) (sym c.deref_mut.ensures.len) (before_fits c.args.self.now c.args.chain.number c.args.run.gap c.args.chain.small c.requires.stands)
 
 pub index_mut-requires : goal.index_mut-requires
-index_mut-requires c = omega (arith, c.relink.ensures.len, end_fits c.args.self.now c.args.chain.number c.args.run c.args.chain.small (omega (arith, c.if-ends-eq0.false)) c.requires.follow)
+index_mut-requires c = end_fits c.args.self.now c.args.chain.number c.args.run c.args.chain.small (omega (arith, c.if-ends-eq0.false)) c.requires.follow
 
 pub overflow_add-free : goal.overflow_add-free
 overflow_add-free c =
@@ -52,7 +53,13 @@ more c =
       | else-free-eq0 w ↦ longer_from_some c.if-free-eq0.free e r.ends.count r.ends.last r.ends.first w.if-free-eq0.false w.free-is
     ]
 
-done : (c : Joined-free-eq0) → (let z = c.if-free-eq0.free in After (vec_items c.args.self.now.cells) c.args.self.now.ends c.args.chain.number c.args.run.gap.place c.args.run.ends.count c.args.run.ends.last (vec_items c.relink.new.cells) c.relink.new.ends c.index_mut.result.now (record { first = z.first; last = z.last; count = z.count + c.args.run.ends.count }))
+-- the memory, with the cells as the relinking left them
+left : (c : Joined-free-eq0) → refill (vec_len c.args.self.now.cells) (vec_items c.args.self.now.cells) c.relink.new.cells ≡ relinked (vec_items c.args.self.now.cells) c.args.run.gap.before c.index.result.now.next
+left c =
+    take_at c.relink.new.cells _ (vec_len c.args.self.now.cells) (omega (arith, c.relink.auto.cells, c.deref_mut.ensures.len))
+    ∙ c.relink.ensures.cells ∙ ap (λ t. relinked t c.args.run.gap.before c.index.result.now.next) c.deref_mut.ensures.value
+
+done : (c : Joined-free-eq0) → (let z = c.if-free-eq0.free in After (vec_items c.args.self.now.cells) c.args.self.now.ends c.args.chain.number c.args.run.gap.place c.args.run.ends.count c.args.run.ends.last (refill (vec_len c.args.self.now.cells) (vec_items c.args.self.now.cells) c.relink.new.cells) c.relink.new.ends c.index_mut.result.now (record { first = z.first; last = z.last; count = z.count + c.args.run.ends.count }))
 done c =
     let x = c.args.self.now in
     let k = c.args.chain.number in
@@ -60,15 +67,16 @@ done c =
     let f = c.requires.follow in
     let some : 0 < r.ends.count = omega (arith, c.if-ends-eq0.false) in
     let fits = end_fits x k r c.args.chain.small some f in
+    let long_now = length_refill (vec_len x.cells) (vec_items x.cells) c.relink.new.cells (sym (long x)) in
     removed_at (vec_items x.cells) x.ends k (linked x) x.twelve c.args.chain.small r.gap.place r.ends.count r.ends.last r.ends.first some f.inside (f.ends_in some) (f.begins some) r.gap.before c.requires.stands.behind
-    _ (fewer c) _ (ap (λ z. z.next) (read x _ c.index.result.now fits c.index.ensures)) _ c.relink.ensures.cells _ c.relink.ensures.ends
-    c.index_mut.result.now (sym (get_or_read (vec_items c.relink.new.cells) r.ends.last c.index_mut.result.now (omega (arith, fits, c.relink.ensures.len, c.relink.new.cells.ok.0)) c.index_mut.ensures.value _)) _ (more c)
+    _ (fewer c) _ (ap (λ z. z.next) (read x _ c.index.result.now fits c.index.ensures)) _ (left c) _ c.relink.ensures.ends
+    c.index_mut.result.now (sym (get_or_read _ r.ends.last c.index_mut.result.now (omega (arith, fits, long_now)) c.index_mut.ensures.value _)) _ (more c)
 
 pub invariant_of-self : goal.invariant_of-self
 invariant_of-self c =
     let x = c.args.self.now in
     let m = done (goal.at.invariant_of-self c).Joined-free-eq0 in
-    record { lawful = subst MayBeLimit (sym c.relink.ensures.len) x.lawful; twelve = m.twelve; running = m.running; ending = m.ending; parted = m.parted; whole = m.whole ∙ long x ∙ sym c.relink.ensures.len }
+    record { lawful = x.lawful; twelve = m.twelve; running = m.running; ending = m.ending; parted = m.parted; whole = m.whole ∙ long x }
 
 pub returns-clause-changed : goal.returns-clause-changed
 returns-clause-changed c = changed c.args.self.now _ c.args.chain.number _ _ _ (done (goal.at.returns-clause-changed c).Joined-free-eq0)
