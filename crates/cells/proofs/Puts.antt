@@ -32,7 +32,10 @@ module _ (x y : Chains) (k : ℕ) (h : k < 11) (f : Canonical (ranges_of x k)) (
       subst (Changed x y k) (sym (new ∙ ap (λ z. take (length rs - 1) rs ++ ((at_place rs (length rs - 1)).0, z) ∷ []) (sym ends_at) ∙ ap (λ n. take (n - 1) rs ++ ((at_place rs (n - 1)).0, top) ∷ []) many)) made
 
 -- the run of ranges that are met
-module _ (x : Chains) (k : ℕ) (h : k < 11) (run : Run) (follow : Follow x k run) where
+module _ (x : Chains) (run : Run) (follow : Follow x run) where
+  abbrev k : ℕ
+  k = run.gap.chain.number
+
   abbrev place : ℕ
   place = run.gap.place
 
@@ -40,16 +43,16 @@ module _ (x : Chains) (k : ℕ) (h : k < 11) (run : Run) (follow : Follow x k ru
   number = run.ends.count
 
   pub first_cell : 0 < number → run.ends.first < vec_len x.cells
-  first_cell p = place_fits x k (omega arith) place run.ends.first (omega (arith, follow.inside)) (follow.begins p)
+  first_cell p = place_fits x k (omega (arith, run.gap.chain.small)) place run.ends.first (omega (arith, follow.inside)) (follow.begins p)
 
   pub last_cell : 0 < number → run.ends.last < vec_len x.cells
-  last_cell p = end_fits x k run h p follow
+  last_cell p = end_fits x run p follow
 
   first_range : 0 < number → (at_place (ranges_of x k) place).0 ≡ (cell (vec_items x.cells) run.ends.first).low
-  first_range p = ap (λ s. s.0) (range_at x k h place run.ends.first _ (omega (arith, follow.inside)) (follow.begins p) refl)
+  first_range p = ap (λ s. s.0) (range_at x k run.gap.chain.small place run.ends.first _ (omega (arith, follow.inside)) (follow.begins p) refl)
 
   last_range : 0 < number → (at_place (ranges_of x k) (place + number - 1)).1 ≡ (cell (vec_items x.cells) run.ends.last).high
-  last_range p = ap (λ s. s.1) (range_at x k h (place + number - 1) run.ends.last _ (omega (arith, follow.inside)) (follow.ends_in p) refl)
+  last_range p = ap (λ s. s.1) (range_at x k run.gap.chain.small (place + number - 1) run.ends.last _ (omega (arith, follow.inside)) (follow.ends_in p) refl)
 
   module _ (y : Chains) (f : Canonical (ranges_of x k)) (lo hi : ℕ) (law : Lawful lo hi) (r : Result (Unit {0}) StoreRefusal) where
     pub put_changes : (lo' hi' : ℕ) (new : Span) → ((id : ℕ) → ltb id lo' ≡ apart id lo) → ((id : ℕ) → ltb hi' id ≡ apart hi id) → EndingBelow (ranges_of x k) lo' place → BeginningWithin (ranges_of x k) hi' place number

@@ -6,10 +6,11 @@ use Rattle.store.specs.Ranges.{Canonical}
 use Rattle.cells.specs.declared.cell.Cell.{Cell}
 use Rattle.cells.specs.declared.chains.Chains.{Chains}
 use Rattle.cells.specs.declared.chains.Gap.{Gap}
+use Rattle.cells.specs.declared.walk.Spot.{Spot}
 use Rattle.cells.specs.Links.{ends}
 use Rattle.cells.specs.Chains.{numbers_of, count_of, ranges_of, cell_at, before_place, Stands, Follow, GoesOn}
 use Rattle.cells.specs.Places.{at_place, EndingBelow, BeginningWithin}
-use Rattle.cells.specs.Held.{ranges_many, last_fits, read}
+use Rattle.cells.specs.Held.{ranges_many, last_fits, place_inside, read}
 use Rattle.cells.specs.Finds.{all_below_last}
 use Rattle.cells.proofs.Steps.{last_at, range_at, at_is}
 
@@ -50,16 +51,17 @@ module _ (x : Chains) (k : ℕ) (h : k < 11) where
         stops = λ p. subst (λ n. high < (at_place (ranges_of x k) n).0) (sym e) (subst (λ s. high < s.0) (sym (cell_range j (omega (arith, many)))) (stops (omega (arith, many))));
       }
 
-  -- the run between two gaps
-  pub between : (from to : Gap) (at last : ℕ) → Stands x k from → GoesOn x k from.place at → Stands x k to → from.place ≤ to.place → last ≡ unwrap_or to.before at → Follow x k (record { gap = from; ends = record { first = at; last = last; count = to.place - from.place } })
-  between from to at last s w t l e = record {
-    inside = omega (arith, t.inside);
-    begins = λ p. at_is x k h from.place at w (omega (arith, t.inside));
-    ends_in = λ p. go to.place t.behind (omega arith) (omega arith);
-  }
-    where
-      go : (n : ℕ) → to.before ≡ before_place (numbers_of x k) n → n ≡ from.place + (to.place - from.place) → 0 < n → get_or (numbers_of x k) (from.place + (to.place - from.place) - 1) 0 ≡ last
-      go zero b m p = absurd (omega arith)
-      go (suc j) b m p =
-          let z : from.place + (to.place - from.place) - 1 ≡ j = omega arith in
-          ap (λ n. get_or (numbers_of x k) n 0) z ∙ sym (e ∙ ap (λ o. unwrap_or o at) b)
+-- the run between two gaps of a chain
+pub between : (x : Chains) (from : Spot) (to : Gap) (last : ℕ) → to.chain ≡ from.gap.chain → GoesOn x from → Stands x to → from.gap.place ≤ to.place → last ≡ unwrap_or to.before from.at
+    → Follow x (record { gap = from.gap; ends = record { first = from.at; last = last; count = to.place - from.gap.place } })
+between x from to last same w t l e = record {
+  inside = omega (arith, place_inside x to from.gap.chain same t);
+  begins = λ p. at_is x from w (omega (arith, place_inside x to from.gap.chain same t));
+  ends_in = λ p. go to.place (t.behind ∙ ap (λ c. before_place (numbers_of x c.number) to.place) same) (omega arith) (omega arith);
+}
+  where
+    go : (n : ℕ) → to.before ≡ before_place (numbers_of x from.gap.chain.number) n → n ≡ from.gap.place + (to.place - from.gap.place) → 0 < n → get_or (numbers_of x from.gap.chain.number) (from.gap.place + (to.place - from.gap.place) - 1) 0 ≡ last
+    go zero b m p = absurd (omega arith)
+    go (suc j) b m p =
+        let z : from.gap.place + (to.place - from.gap.place) - 1 ≡ j = omega arith in
+        ap (λ n. get_or (numbers_of x from.gap.chain.number) n 0) z ∙ sym (e ∙ ap (λ o. unwrap_or o from.at) b)

@@ -8,6 +8,7 @@ use Rattle.cells.specs.declared.cell.Cell.{Cell}
 use Rattle.cells.specs.declared.chains.Chains.{Chains}
 use Rattle.cells.specs.declared.chains.Gap.{Gap}
 use Rattle.cells.specs.declared.chains.Run.{Run}
+use Rattle.cells.specs.declared.walk.Spot.{Spot}
 
 -- the cells of a chain, how many they are, their ranges, and how many cells are free
 abbrev pub numbers_of : Chains → ℕ → List ℕ
@@ -31,22 +32,22 @@ abbrev pub before_place : List ℕ → ℕ → Option ℕ
 before_place l zero = None
 before_place l (suc i) = Some (slice_index l i)
 
--- the gap is one of the chain: it names the cell before it
-pub record Stands (x : Chains) (k : ℕ) (gap : Gap) : Type 0 where
-  pub inside : gap.place ≤ count_of x k
-  pub behind : gap.before ≡ before_place (numbers_of x k) gap.place
+-- the gap is one of its chain: it names the cell before it
+pub record Stands (x : Chains) (gap : Gap) : Type 0 where
+  pub inside : gap.place ≤ count_of x gap.chain.number
+  pub behind : gap.before ≡ before_place (numbers_of x gap.chain.number) gap.place
 
 -- the run's cells are those behind its gap
-pub record Follow (x : Chains) (k : ℕ) (run : Run) : Type 0 where
-  pub inside : run.gap.place + run.ends.count ≤ count_of x k
-  pub begins : 0 < run.ends.count → slice_index (numbers_of x k) run.gap.place ≡ run.ends.first
-  pub ends_in : 0 < run.ends.count → slice_index (numbers_of x k) (run.gap.place + run.ends.count - 1) ≡ run.ends.last
+pub record Follow (x : Chains) (run : Run) : Type 0 where
+  pub inside : run.gap.place + run.ends.count ≤ count_of x run.gap.chain.number
+  pub begins : 0 < run.ends.count → slice_index (numbers_of x run.gap.chain.number) run.gap.place ≡ run.ends.first
+  pub ends_in : 0 < run.ends.count → slice_index (numbers_of x run.gap.chain.number) (run.gap.place + run.ends.count - 1) ≡ run.ends.last
 
--- what stands behind a gap: from `at` on goes the rest of the chain, and no more
-pub record GoesOn (x : Chains) (k place at : ℕ) : Type 0 where
-  pub inside : place ≤ count_of x k
-  pub rest : drop place (numbers_of x k) ≡ path (vec_items x.cells) (count_of x k - place) at
-  pub stops : runs (vec_items x.cells) (count_of x k - place) at ≡ true
+-- the spot's gap is one of its chain, and from `at` on goes the rest of that, and no more
+pub record GoesOn (x : Chains) (spot : Spot) : Type 0 where
+  pub stands : Stands x spot.gap
+  pub rest : drop spot.gap.place (numbers_of x spot.gap.chain.number) ≡ path (vec_items x.cells) (count_of x spot.gap.chain.number - spot.gap.place) spot.at
+  pub stops : runs (vec_items x.cells) (count_of x spot.gap.chain.number - spot.gap.place) spot.at ≡ true
 
 -- one chain has these ranges now, and the other sets' chains have what they had
 pub record Changed (before after : Chains) (k : ℕ) (wanted : List Span) : Type 0 where

@@ -1,5 +1,5 @@
 // Twelve chains through one memory of cells.
-ghost use Rattle.std.specs.Prelude.{◌≡◌, ◌<◌, length, vec_len};
+ghost use Rattle.std.specs.Prelude.{◌≡◌, ◌<◌, None, length, vec_len};
 ghost use Rattle.store.specs.Limits.{MayBeLimit};
 ghost use Rattle.store.specs.Sets.{number};
 ghost use Rattle.cells.specs.Links.{Running, Ending, Parted, sum};
@@ -40,16 +40,22 @@ impl From<SetName> for Chain {
 /// The gap behind so many cells of a chain; `before` is the last of them, and there is none at the front.
 #[derive(Clone, Copy)]
 pub struct Gap {
+    pub(crate) chain: Chain,
     pub(crate) place: usize,
     pub(crate) before: Option<usize>,
 }
 
 impl Gap {
-    /// The gap before the first cell.
-    pub(crate) const FRONT: Gap = Gap {
-        place: 0,
-        before: None,
-    };
+    /// The gap before the first cell of the chain.
+    pub(crate) fn front(chain: Chain) -> Gap
+        ensures { result ≡ record { chain = chain; place = 0; before = None } }
+    {
+        Gap {
+            chain,
+            place: 0,
+            before: None,
+        }
+    }
 }
 
 /// Cells that stand together in a chain, and the gap before them.

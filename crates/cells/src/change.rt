@@ -40,7 +40,7 @@ impl CellStore {
         let high = adjoining_above(range.high());
         let run = self.meeting(chain, low, high);
         let joined = self.chains.joined(run, range);
-        self.chains.replace(chain, run, Some(joined), None)
+        self.chains.replace(run, Some(joined), None)
     }
 
     // Puts a range that begins in the last range of the chain, or right behind it, into that; whether it begins there.
@@ -74,7 +74,7 @@ impl CellStore {
         let last = self.chains.cells[run.ends.last];
         let lower = range.leaves_below(first.low);
         let upper = range.leaves_above(last.high);
-        self.chains.replace(chain, run, lower, upper)
+        self.chains.replace(run, lower, upper)
     }
 }
 
@@ -97,35 +97,34 @@ impl Chains {
     // Up to two ranges in the place of those of the run.
     fn replace(
         &mut self,
-        chain: Chain,
         run: Run,
         lower: Option<(u64, u64)>,
         upper: Option<(u64, u64)>,
     ) -> Result<(), StoreRefusal>
-        requires stands { Stands self.old chain.number run.gap }
-        requires follow { Follow self.old chain.number run }
-        ensures { ChangedIfItFits self.old self.new chain.number (take run.gap.place (ranges_of self.old chain.number) ++ (one_or_none lower ++ (one_or_none upper ++ drop (run.gap.place + run.ends.count) (ranges_of self.old chain.number)))) result }
+        requires stands { Stands self.old run.gap }
+        requires follow { Follow self.old run }
+        ensures { let rs = ranges_of self.old run.gap.chain.number in ChangedIfItFits self.old self.new run.gap.chain.number (take run.gap.place rs ++ (one_or_none lower ++ (one_or_none upper ++ drop (run.gap.place + run.ends.count) rs))) result }
     {
         let wanted = usize::from(lower.is_some()) + usize::from(upper.is_some());
         if self.free() + run.ends.count < wanted {
             return Err(StoreRefusal::Full);
         }
-        self.remove(chain, run);
-        self.insert_any(chain, run.gap, upper);
-        self.insert_any(chain, run.gap, lower);
+        self.remove(run);
+        self.insert_any(run.gap, upper);
+        self.insert_any(run.gap, lower);
         Ok(())
     }
 
     // The range at the gap, if there is one.
-    fn insert_any(&mut self, chain: Chain, gap: Gap, range: Option<(u64, u64)>)
-        requires stands { Stands self.old chain.number gap }
+    fn insert_any(&mut self, gap: Gap, range: Option<(u64, u64)>)
+        requires stands { Stands self.old gap }
         requires room { length (one_or_none range) ≤ free_of self.old }
-        ensures changed { Changed self.old self.new chain.number (take gap.place (ranges_of self.old chain.number) ++ (one_or_none range ++ drop gap.place (ranges_of self.old chain.number))) }
-        ensures stands { Stands self.new chain.number gap }
+        ensures changed { let rs = ranges_of self.old gap.chain.number in Changed self.old self.new gap.chain.number (take gap.place rs ++ (one_or_none range ++ drop gap.place rs)) }
+        ensures stands { Stands self.new gap }
         ensures free { free_of self.new + length (one_or_none range) ≡ free_of self.old }
     {
         if let Some((low, high)) = range {
-            self.insert(chain, gap, low, high);
+            self.insert(gap, low, high);
         }
     }
 }

@@ -5,7 +5,7 @@ ghost use Rattle.cells.specs.Relinks.{link, relinked, with_link};
 ghost use Rattle.cells.specs.Chains.{ranges_of, free_of, Stands, Follow, Changed};
 
 use crate::cell::{Cell, Ends};
-use crate::chains::{Chain, Chains, Gap, Run};
+use crate::chains::{Chains, Gap, Run};
 use std::mem;
 use store::Memory;
 
@@ -68,15 +68,15 @@ impl Chains {
         self.ends[FREE].count
     }
 
-    /// Takes a free cell for the range and links it into the chain at the gap.
-    pub(crate) fn insert(&mut self, chain: Chain, gap: Gap, low: u64, high: u64)
-        requires stands { Stands self.old chain.number gap }
+    /// Takes a free cell for the range and links it in at the gap.
+    pub(crate) fn insert(&mut self, gap: Gap, low: u64, high: u64)
+        requires stands { Stands self.old gap }
         requires room { 0 < free_of self.old }
-        ensures changed { Changed self.old self.new chain.number (take gap.place (ranges_of self.old chain.number) ++ (low, high) ∷ drop gap.place (ranges_of self.old chain.number)) }
-        ensures stands { Stands self.new chain.number gap }
+        ensures changed { let rs = ranges_of self.old gap.chain.number in Changed self.old self.new gap.chain.number (take gap.place rs ++ (low, high) ∷ drop gap.place rs) }
+        ensures stands { Stands self.new gap }
         ensures free { free_of self.new + 1 ≡ free_of self.old }
     {
-        let mut set = self.ends[chain.number];
+        let mut set = self.ends[gap.chain.number];
         let mut free = self.ends[FREE];
         let cell = free.first;
         free.first = self.cells[cell].next;
@@ -87,23 +87,23 @@ impl Chains {
         set.count += 1;
         let next = relink(&mut self.cells, &mut set, gap.before, cell);
         self.cells[cell] = Cell { low, high, next };
-        self.ends[chain.number] = set;
+        self.ends[gap.chain.number] = set;
         self.ends[FREE] = free;
     }
 
-    /// Links cells out of the chain and hands them to the free chain as they are linked.
-    pub(crate) fn remove(&mut self, chain: Chain, run: Run)
-        requires stands { Stands self.old chain.number run.gap }
-        requires follow { Follow self.old chain.number run }
-        ensures changed { Changed self.old self.new chain.number (take run.gap.place (ranges_of self.old chain.number) ++ drop (run.gap.place + run.ends.count) (ranges_of self.old chain.number)) }
-        ensures stands { Stands self.new chain.number run.gap }
+    /// Links cells out of their chain and hands them to the free chain as they are linked.
+    pub(crate) fn remove(&mut self, run: Run)
+        requires stands { Stands self.old run.gap }
+        requires follow { Follow self.old run }
+        ensures changed { let rs = ranges_of self.old run.gap.chain.number in Changed self.old self.new run.gap.chain.number (take run.gap.place rs ++ drop (run.gap.place + run.ends.count) rs) }
+        ensures stands { Stands self.new run.gap }
         ensures free { free_of self.new ≡ free_of self.old + run.ends.count }
     {
         let Run { gap, ends } = run;
         if ends.count == 0 {
             return;
         }
-        let mut set = self.ends[chain.number];
+        let mut set = self.ends[gap.chain.number];
         let mut free = self.ends[FREE];
         if set.last == ends.last {
             set.last = gap.before.unwrap_or(set.last);
@@ -117,7 +117,7 @@ impl Chains {
             free.last = ends.last;
         }
         free.count += ends.count;
-        self.ends[chain.number] = set;
+        self.ends[gap.chain.number] = set;
         self.ends[FREE] = free;
     }
 }

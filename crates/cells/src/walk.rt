@@ -17,24 +17,24 @@ pub struct Spot {
 
 impl Chains {
     // Steps over the cells from the spot on, for as long as they pass.
-    fn walk_while<F: Fn(Cell) -> bool>(&self, chain: Chain, from: Spot, passes: F) -> Spot
+    fn walk_while<F: Fn(Cell) -> bool>(&self, from: Spot, passes: F) -> Spot
         requires callable { F.IsAlwaysCallable passes }
-        requires stands { Stands self.now chain.number from.gap }
-        requires on { GoesOn self.now chain.number from.gap.place from.at }
-        ensures stands { Stands self.now chain.number result.gap }
-        ensures on { GoesOn self.now chain.number result.gap.place result.at }
+        requires on { GoesOn self.now from }
+        ensures chain { result.gap.chain ≡ from.gap.chain }
+        ensures on { GoesOn self.now result }
         ensures from { from.gap.place ≤ result.gap.place }
-        ensures passed { (i : ℕ) → from.gap.place ≤ i → i < result.gap.place → F.post passes (cell_at self.now chain.number i) true }
-        ensures stopped { result.gap.place < count_of self.now chain.number → F.post passes (cell_at self.now chain.number result.gap.place) false }
+        ensures passed { (i : ℕ) → from.gap.place ≤ i → i < result.gap.place → F.post passes (cell_at self.now from.gap.chain.number i) true }
+        ensures stopped { result.gap.place < count_of self.now from.gap.chain.number → F.post passes (cell_at self.now from.gap.chain.number result.gap.place) false }
     {
         let mut spot = from;
-        for place in from.gap.place..self.ends[chain.number].count {
+        for place in from.gap.place..self.ends[from.gap.chain.number].count {
             let cell = self.cells[spot.at];
             if !passes(cell) {
                 break;
             }
             spot = Spot {
                 gap: Gap {
+                    chain: from.gap.chain,
                     place: place + 1,
                     before: Some(spot.at),
                 },
@@ -48,9 +48,9 @@ impl Chains {
 impl CellStore {
     /// The gap behind the ranges that end below `n`. Behind the last range it is found without a walk.
     fn ending_below(&self, chain: Chain, n: u64) -> Spot
-        ensures stands { Stands self.now.chains chain.number result.gap }
-        ensures on { GoesOn self.now.chains chain.number result.gap.place result.at }
-        ensures below { EndingBelow (ranges_of self.now.chains chain.number) n result.gap.place }
+        ensures chain { result.gap.chain ≡ chain }
+        ensures on { GoesOn self.now.chains result }
+        ensures below { EndingBelow (ranges_of self.now.chains result.gap.chain.number) n result.gap.place }
     {
         let ends = self.chains.ends[chain.number];
         if ends.count > 0 {
@@ -58,6 +58,7 @@ impl CellStore {
             if last.high < n {
                 return Spot {
                     gap: Gap {
+                        chain,
                         place: ends.count,
                         before: Some(ends.last),
                     },
@@ -66,21 +67,22 @@ impl CellStore {
             }
         }
         let front = Spot {
-            gap: Gap::FRONT,
+            gap: Gap::front(chain),
             at: ends.first,
         };
-        self.chains.walk_while(chain, front, |cell| cell.high < n)
+        self.chains.walk_while(front, |cell| cell.high < n)
     }
 
     /// The cells whose ranges meet low..high.
     pub(crate) fn meeting(&self, chain: Chain, low: u64, high: u64) -> Run
-        ensures stands { Stands self.now.chains chain.number result.gap }
-        ensures follow { Follow self.now.chains chain.number result }
-        ensures below { EndingBelow (ranges_of self.now.chains chain.number) low result.gap.place }
-        ensures met { BeginningWithin (ranges_of self.now.chains chain.number) high result.gap.place result.ends.count }
+        ensures chain { result.gap.chain ≡ chain }
+        ensures stands { Stands self.now.chains result.gap }
+        ensures follow { Follow self.now.chains result }
+        ensures below { EndingBelow (ranges_of self.now.chains result.gap.chain.number) low result.gap.place }
+        ensures met { BeginningWithin (ranges_of self.now.chains result.gap.chain.number) high result.gap.place result.ends.count }
     {
         let from = self.ending_below(chain, low);
-        let to = self.chains.walk_while(chain, from, |cell| cell.low <= high);
+        let to = self.chains.walk_while(from, |cell| cell.low <= high);
         Run {
             gap: from.gap,
             ends: Ends {

@@ -11,10 +11,10 @@ impl Chains {
         ensures { Changed self.old self.new chain.number [] }
     {
         let run = Run {
-            gap: Gap::FRONT,
+            gap: Gap::front(chain),
             ends: self.ends[chain.number],
         };
-        self.remove(chain, run);
+        self.remove(run);
     }
 
     /// Two chains change places, in a constant number of steps.
