@@ -4,6 +4,7 @@ use Rattle.store.specs.Ids.{Lawful}
 use Rattle.store.specs.Ranges.{Span, Canonical, apart, with_range, without_range}
 use Rattle.store.specs.declared.refusal.StoreRefusal.{StoreRefusal}
 use Rattle.cells.specs.declared.cell.Cell.{Cell}
+use Rattle.cells.specs.declared.chains.Chain.{Chain}
 use Rattle.cells.specs.declared.chains.Chains.{Chains}
 use Rattle.cells.specs.declared.chains.Run.{Run}
 use Rattle.cells.specs.Links.{cell, ends}
@@ -31,10 +32,17 @@ module _ (x y : Chains) (k : ℕ) (h : k < 11) (f : Canonical (ranges_of x k)) (
       let ends_at : top ≡ max (at_place rs (length rs - 1)).1 hi = t ∙ ap (λ s. max s.1 hi) (sym at) in
       subst (Changed x y k) (sym (new ∙ ap (λ z. take (length rs - 1) rs ++ ((at_place rs (length rs - 1)).0, z) ∷ []) (sym ends_at) ∙ ap (λ n. take (n - 1) rs ++ ((at_place rs (n - 1)).0, top) ∷ []) many)) made
 
--- the run of ranges that are met
-module _ (x : Chains) (run : Run) (follow : Follow x run) where
+-- the cells at the two ends of a run
+pub first_cell : (x : Chains) (run : Run) → Follow x run → 0 < run.ends.count → run.ends.first < vec_len x.cells
+first_cell x run follow p = place_fits x run.gap.chain.number (omega (arith, run.gap.chain.small)) run.gap.place run.ends.first (omega (arith, follow.inside)) (follow.begins p)
+
+pub last_cell : (x : Chains) (run : Run) → Follow x run → 0 < run.ends.count → run.ends.last < vec_len x.cells
+last_cell x run follow p = end_fits x run p follow
+
+-- the run of ranges of a chain that are met
+module _ (x : Chains) (run : Run) (follow : Follow x run) (chain : Chain) (whose : run.gap.chain ≡ chain) where
   abbrev k : ℕ
-  k = run.gap.chain.number
+  k = chain.number
 
   abbrev place : ℕ
   place = run.gap.place
@@ -42,32 +50,32 @@ module _ (x : Chains) (run : Run) (follow : Follow x run) where
   abbrev number : ℕ
   number = run.ends.count
 
-  pub first_cell : 0 < number → run.ends.first < vec_len x.cells
-  first_cell p = place_fits x k (omega (arith, run.gap.chain.small)) place run.ends.first (omega (arith, follow.inside)) (follow.begins p)
-
-  pub last_cell : 0 < number → run.ends.last < vec_len x.cells
-  last_cell p = end_fits x run p follow
-
   first_range : 0 < number → (at_place (ranges_of x k) place).0 ≡ (cell (vec_items x.cells) run.ends.first).low
-  first_range p = ap (λ s. s.0) (range_at x k run.gap.chain.small place run.ends.first _ (omega (arith, follow.inside)) (follow.begins p) refl)
+  first_range p = ap (λ c. (at_place (ranges_of x c.number) place).0) (sym whose) ∙ ap (λ s. s.0) (range_at x _ run.gap.chain.small place run.ends.first _ (omega (arith, follow.inside)) (follow.begins p) refl)
 
   last_range : 0 < number → (at_place (ranges_of x k) (place + number - 1)).1 ≡ (cell (vec_items x.cells) run.ends.last).high
-  last_range p = ap (λ s. s.1) (range_at x k run.gap.chain.small (place + number - 1) run.ends.last _ (omega (arith, follow.inside)) (follow.ends_in p) refl)
+  last_range p =
+      ap (λ c. (at_place (ranges_of x c.number) (place + number - 1)).1) (sym whose)
+      ∙ ap (λ s. s.1) (range_at x _ run.gap.chain.small (place + number - 1) run.ends.last _ (omega (arith, follow.inside)) (follow.ends_in p) refl)
+
+  -- what a change is for the run's chain, it is for the chain
+  its : (y : Chains) (r : Result (Unit {0}) StoreRefusal) (wanted : List Span → List Span) → ChangedIfItFits x y run.gap.chain.number (wanted (ranges_of x run.gap.chain.number)) r → ChangedIfItFits x y k (wanted (ranges_of x k)) r
+  its y r wanted made = subst (λ c. ChangedIfItFits x y c.number (wanted (ranges_of x c.number)) r) whose made
 
   module _ (y : Chains) (f : Canonical (ranges_of x k)) (lo hi : ℕ) (law : Lawful lo hi) (r : Result (Unit {0}) StoreRefusal) where
     pub put_changes : (lo' hi' : ℕ) (new : Span) → ((id : ℕ) → ltb id lo' ≡ apart id lo) → ((id : ℕ) → ltb hi' id ≡ apart hi id) → EndingBelow (ranges_of x k) lo' place → BeginningWithin (ranges_of x k) hi' place number
         → (number ≡ 0 → new ≡ (lo, hi)) → (0 < number → new ≡ (min lo (cell (vec_items x.cells) run.ends.first).low, max hi (cell (vec_items x.cells) run.ends.last).high))
-        → ChangedIfItFits x y k (take place (ranges_of x k) ++ new ∷ drop (place + number) (ranges_of x k)) r → ChangedIfItFits x y k (with_range lo hi (ranges_of x k)) r
+        → (let rs = ranges_of x run.gap.chain.number in ChangedIfItFits x y run.gap.chain.number (take place rs ++ new ∷ drop (place + number) rs) r) → ChangedIfItFits x y k (with_range lo hi (ranges_of x k)) r
     put_changes lo' hi' new a b ending beginning alone whole made =
         subst (λ l. ChangedIfItFits x y k l r)
         (sym (put_at lo hi lo' hi' (ranges_of x k) place number new f law a b ending beginning alone
         (λ p. whole p ∙ (λ i. (min lo (sym (first_range p) i), max hi (sym (last_range p) i))))))
-        made
+        (its y r (λ rs. take place rs ++ new ∷ drop (place + number) rs) made)
 
     pub take_changes : (lower upper : List Span) → 0 < number → EndingBelow (ranges_of x k) lo place → BeginningWithin (ranges_of x k) hi place number
         → lower ≡ cond (ltb (cell (vec_items x.cells) run.ends.first).low lo) (((cell (vec_items x.cells) run.ends.first).low, lo - 1) ∷ []) []
         → upper ≡ cond (ltb hi (cell (vec_items x.cells) run.ends.last).high) ((hi + 1, (cell (vec_items x.cells) run.ends.last).high) ∷ []) []
-        → ChangedIfItFits x y k (take place (ranges_of x k) ++ (lower ++ (upper ++ drop (place + number) (ranges_of x k)))) r → ChangedIfItFits x y k (without_range lo hi (ranges_of x k)) r
+        → (let rs = ranges_of x run.gap.chain.number in ChangedIfItFits x y run.gap.chain.number (take place rs ++ (lower ++ (upper ++ drop (place + number) rs))) r) → ChangedIfItFits x y k (without_range lo hi (ranges_of x k)) r
     take_changes lower upper p ending beginning a b made =
         subst (λ l. ChangedIfItFits x y k l r)
         (sym (take_at lo hi (ranges_of x k) place number f law ending beginning p
@@ -75,7 +83,7 @@ module _ (x : Chains) (run : Run) (follow : Follow x run) where
         ∙ ap (λ z. take place (ranges_of x k) ++ (z ++ (cond (ltb hi (at_place (ranges_of x k) (place + number - 1)).1) ((hi + 1, (at_place (ranges_of x k) (place + number - 1)).1) ∷ []) [] ++ drop (place + number) (ranges_of x k)))) (sym a)
         ∙ ap (λ z. take place (ranges_of x k) ++ (lower ++ (cond (ltb hi z) ((hi + 1, z) ∷ []) [] ++ drop (place + number) (ranges_of x k)))) (last_range p)
         ∙ ap (λ z. take place (ranges_of x k) ++ (lower ++ (z ++ drop (place + number) (ranges_of x k)))) (sym b)))
-        made
+        (its y r (λ rs. take place rs ++ (lower ++ (upper ++ drop (place + number) rs))) made)
 
 -- nothing met, nothing taken
 pub takes_nothing : (x : Chains) (k : ℕ) → Canonical (ranges_of x k) → (lo hi place number : ℕ) → Lawful lo hi → EndingBelow (ranges_of x k) lo place → BeginningWithin (ranges_of x k) hi place number → number ≡ 0 → Changed x x k (without_range lo hi (ranges_of x k))

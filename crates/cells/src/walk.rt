@@ -50,7 +50,7 @@ impl CellStore {
     fn ending_below(&self, chain: Chain, n: u64) -> Spot
         ensures chain { result.gap.chain ≡ chain }
         ensures on { GoesOn self.now.chains result }
-        ensures below { EndingBelow (ranges_of self.now.chains result.gap.chain.number) n result.gap.place }
+        ensures below { EndingBelow (ranges_of self.now.chains chain.number) n result.gap.place }
     {
         let ends = self.chains.ends[chain.number];
         if ends.count > 0 {
@@ -78,8 +78,8 @@ impl CellStore {
         ensures chain { result.gap.chain ≡ chain }
         ensures stands { Stands self.now.chains result.gap }
         ensures follow { Follow self.now.chains result }
-        ensures below { EndingBelow (ranges_of self.now.chains result.gap.chain.number) low result.gap.place }
-        ensures met { BeginningWithin (ranges_of self.now.chains result.gap.chain.number) high result.gap.place result.ends.count }
+        ensures below { EndingBelow (ranges_of self.now.chains chain.number) low result.gap.place }
+        ensures met { BeginningWithin (ranges_of self.now.chains chain.number) high result.gap.place result.ends.count }
     {
         let from = self.ending_below(chain, low);
         let to = self.chains.walk_while(from, |cell| cell.low <= high);

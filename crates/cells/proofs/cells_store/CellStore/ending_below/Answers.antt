@@ -34,6 +34,6 @@ returns-clause-below c =
     let w = c.walk_while in
     let f = c.front.result in
     let at = w.result.gap in
-    subst (λ h. EndingBelow (ranges_of x h.number) c.args.n at.place) (sym w.ensures.chain)
+    subst (λ g. EndingBelow (ranges_of x g.chain.number) c.args.n at.place) c.front.ensures
     (ending_below x f.chain.number f.chain.small c.args.n at.place (place_inside x at f.chain w.ensures.chain w.ensures.on.stands)
     (λ j a b. search (rules, w.ensures.passed j (omega (arith, ap (λ g. g.place) c.front.ensures)) b)) (λ l. search (rules, w.ensures.stopped l)))

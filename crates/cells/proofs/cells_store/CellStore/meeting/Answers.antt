@@ -1,5 +1,7 @@
 -- A step meets one range more.
-use Rattle.std.proofs.Common.{rules}
+use Rattle.std.proofs.Common.{◌-◌, subst, rules}
+use Rattle.cells.specs.Chains.{ranges_of}
+use Rattle.cells.specs.Places.{BeginningWithin}
 use Rattle.cells.specs.Held.{place_inside}
 use Rattle.cells.proofs.Walks.{beginning_within, between}
 use Rattle.cells.proofs.cells_store.CellStore.meeting.Goals as goal
@@ -13,7 +15,9 @@ returns-clause-follow c =
 pub returns-clause-met : goal.returns-clause-met
 returns-clause-met c =
     let x = c.args.self.now.chains in
-    let from = c.ending_below-from.result.gap in
+    let f = c.ending_below-from in
+    let from = f.result.gap in
     let t = c.walk_while-to in
-    beginning_within x from.chain.number from.chain.small c.args.high from.place t.result.gap.place t.ensures.from (place_inside x t.result.gap from.chain t.ensures.chain t.ensures.on.stands)
-    (λ m a b. search (rules, t.ensures.passed m a b)) (λ l. search (rules, t.ensures.stopped l))
+    subst (λ h. BeginningWithin (ranges_of x h.number) c.args.high from.place (t.result.gap.place - from.place)) f.ensures.chain
+    (beginning_within x from.chain.number from.chain.small c.args.high from.place t.result.gap.place t.ensures.from (place_inside x t.result.gap from.chain t.ensures.chain t.ensures.on.stands)
+    (λ m a b. search (rules, t.ensures.passed m a b)) (λ l. search (rules, t.ensures.stopped l)))

@@ -32,10 +32,9 @@ done c =
     let law = subst (λ n. Lawful n g.high) c.low.ensures.value c.low.ensures.lawful in
     let below : (id : ℕ) → ltb id c.adjoining_below-low.result ≡ apart id g.low = λ id. c.adjoining_below-low.ensures id ∙ ap (apart id) c.low.ensures.value in
     let above : (id : ℕ) → ltb c.adjoining_above-high.result id ≡ apart g.high id = λ id. c.adjoining_above-high.ensures id ∙ ap (λ n. apart n id) c.high.ensures.value in
-    let made = put_changes w r e.follow y (ordered_at c.grow_last.new.self r.gap.chain) g.low g.high law c.replace.result c.adjoining_below-low.result c.adjoining_above-high.result c.joined-joined.result below above e.below e.met c.joined-joined.ensures.alone c.joined-joined.ensures.whole c.replace.ensures in
-    let here = subst (λ h. ChangedIfItFits w y h.number (with_range g.low g.high (ranges_of w h.number)) c.replace.result) e.chain made in
+    let made = put_changes w r e.follow c.args.chain e.chain y (ordered_at c.grow_last.new.self c.args.chain) g.low g.high law c.replace.result c.adjoining_below-low.result c.adjoining_above-high.result c.joined-joined.result below above e.below e.met c.joined-joined.ensures.alone c.joined-joined.ensures.whole c.replace.ensures in
     let k = c.args.chain.number in
-    subst (λ z. ChangedIfItFits z y k (with_range g.low g.high (ranges_of z k)) c.replace.result) (ap (λ z. z.chains) (c.if-grow_last.ensures.same refl)) here
+    subst (λ z. ChangedIfItFits z y k (with_range g.low g.high (ranges_of z k)) c.replace.result) (ap (λ z. z.chains) (c.if-grow_last.ensures.same refl)) made
 
 pub invariant_of-self : goal.invariant_of-self
 invariant_of-self c =

@@ -3,7 +3,7 @@ use Rattle.std.proofs.Common.{◌+◌, ◌-◌, ◌<◌, cond, ltb, [], ◌∷�
 use Rattle.store.specs.Ids.{Lawful}
 use Rattle.store.specs.Ranges.{without_range}
 use Rattle.store.proofs.Removing.{removing_keeps_order}
-use Rattle.cells.specs.Chains.{ranges_of, Changed, ChangedIfItFits}
+use Rattle.cells.specs.Chains.{ranges_of, ChangedIfItFits}
 use Rattle.cells.specs.Places.{one_or_none, EndingBelow, BeginningWithin}
 use Rattle.cells.specs.Held.{read}
 use Rattle.cells.specs.Meanings.{ordered_at, ordered_if_it_fits}
@@ -16,12 +16,11 @@ returns-then-run-eq0 c =
     let x = c.args.self.now.chains in
     let g = c.args.range in
     let r = c.meeting-run.result in
-    let rs = ranges_of x r.gap.chain.number in
+    let rs = ranges_of x c.args.chain.number in
     let e = c.meeting-run.ensures in
     let law = subst (λ n. Lawful n g.high) c.low.ensures.value c.low.ensures.lawful in
-    subst (λ h. Changed x x h.number (without_range g.low g.high (ranges_of x h.number))) e.chain
-    (takes_nothing x r.gap.chain.number (ordered_at c.args.self.now r.gap.chain) g.low g.high r.gap.place r.ends.count law
-    (subst (λ n. EndingBelow rs n r.gap.place) c.low.ensures.value e.below) (subst (λ n. BeginningWithin rs n r.gap.place r.ends.count) c.high.ensures.value e.met) c.if-run-eq0.true)
+    takes_nothing x c.args.chain.number (ordered_at c.args.self.now c.args.chain) g.low g.high r.gap.place r.ends.count law
+    (subst (λ n. EndingBelow rs n r.gap.place) c.low.ensures.value e.below) (subst (λ n. BeginningWithin rs n r.gap.place r.ends.count) c.high.ensures.value e.met) c.if-run-eq0.true
 
 pub index-first-requires : goal.index-first-requires
 index-first-requires c = first_cell c.args.self.now.chains c.meeting-run.result c.meeting-run.ensures.follow (omega (arith, c.if-run-eq0.false))
@@ -35,19 +34,18 @@ done c =
     let y = c.replace.new.self in
     let g = c.args.range in
     let r = c.meeting-run.result in
-    let rs = ranges_of x r.gap.chain.number in
+    let rs = ranges_of x c.args.chain.number in
     let e = c.meeting-run.ensures in
     let some : 0 < r.ends.count = omega (arith, c.if-run-eq0.false) in
     let law = subst (λ n. Lawful n g.high) c.low.ensures.value c.low.ensures.lawful in
     let first = read x r.ends.first c.index-first.result.now (first_cell x r e.follow some) c.index-first.ensures in
     let last = read x r.ends.last c.index-last.result.now (last_cell x r e.follow some) c.index-last.ensures in
-    subst (λ h. ChangedIfItFits x y h.number (without_range g.low g.high (ranges_of x h.number)) c.replace.result) e.chain
-    (take_changes x r e.follow y (ordered_at c.args.self.now r.gap.chain) g.low g.high law c.replace.result
+    take_changes x r e.follow c.args.chain e.chain y (ordered_at c.args.self.now c.args.chain) g.low g.high law c.replace.result
     (one_or_none c.leaves_below-lower.result) (one_or_none c.leaves_above-upper.result) some
     (subst (λ n. EndingBelow rs n r.gap.place) c.low.ensures.value e.below) (subst (λ n. BeginningWithin rs n r.gap.place r.ends.count) c.high.ensures.value e.met)
     (ap one_or_none c.leaves_below-lower.ensures ∙ as_list (ltb c.index-first.result.now.low g.low) (c.index-first.result.now.low, g.low - 1) ∙ ap (λ z. cond (ltb z.low g.low) ((z.low, g.low - 1) ∷ []) []) (sym first))
     (ap one_or_none c.leaves_above-upper.ensures ∙ as_list (ltb g.high c.index-last.result.now.high) (g.high + 1, c.index-last.result.now.high) ∙ ap (λ z. cond (ltb g.high z.high) ((g.high + 1, z.high) ∷ []) []) (sym last))
-    c.replace.ensures)
+    c.replace.ensures
 
 pub invariant_of-self : goal.invariant_of-self
 invariant_of-self c =
