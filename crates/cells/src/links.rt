@@ -47,7 +47,7 @@ impl Chains {
         let Memory { places: mut cells } = memory;
         let n = cells.len();
         link_all(&mut cells);
-        // The chain of a set has no cell yet: its links end at once, in `n`. That is the number of cells, so no cell has it: they count from 0.
+        // No set's chain has a cell yet: its links end at once, in `n`. That is how many cells there are, and they are numbered from 0, so no cell has it.
         let mut ends = [Ends {
             first: n,
             last: n,
