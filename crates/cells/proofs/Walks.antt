@@ -55,6 +55,7 @@ module _ (x : Chains) (k : ℕ) (h : k < 11) where
 pub between : (x : Chains) (from : Spot) (to : Gap) (last : ℕ) → to.chain ≡ from.gap.chain → GoesOn x from → Stands x to → from.gap.place ≤ to.place → last ≡ unwrap_or to.before from.at
     → Follow x (record { gap = from.gap; ends = record { first = from.at; last = last; count = to.place - from.gap.place } })
 between x from to last same w t l e = record {
+  stands = w.stands;
   inside = omega (arith, place_inside x to from.gap.chain same t);
   begins = λ p. at_is x from w (omega (arith, place_inside x to from.gap.chain same t));
   ends_in = λ p. go to.place (t.behind ∙ ap (λ c. before_place (numbers_of x c.number) to.place) same) (omega arith) (omega arith);

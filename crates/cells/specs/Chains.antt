@@ -37,8 +37,9 @@ pub record Stands (x : Chains) (gap : Gap) : Type 0 where
   pub inside : gap.place ≤ count_of x gap.chain.number
   pub behind : gap.before ≡ before_place (numbers_of x gap.chain.number) gap.place
 
--- the run's cells are those behind its gap
+-- the run's gap is one of its chain, and its cells are those behind it
 pub record Follow (x : Chains) (run : Run) : Type 0 where
+  pub stands : Stands x run.gap
   pub inside : run.gap.place + run.ends.count ≤ count_of x run.gap.chain.number
   pub begins : 0 < run.ends.count → slice_index (numbers_of x run.gap.chain.number) run.gap.place ≡ run.ends.first
   pub ends_in : 0 < run.ends.count → slice_index (numbers_of x run.gap.chain.number) (run.gap.place + run.ends.count - 1) ≡ run.ends.last

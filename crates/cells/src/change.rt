@@ -81,8 +81,7 @@ impl CellStore {
 impl Chains {
     // One range for the range and the cells that it meets.
     fn joined(&self, run: Run, range: Range) -> (u64, u64)
-        requires first { 0 < run.ends.count → run.ends.first < vec_len self.now.cells }
-        requires last { 0 < run.ends.count → run.ends.last < vec_len self.now.cells }
+        requires { Follow self.now run }
         ensures alone { run.ends.count ≡ 0 → result ≡ (range.low, range.high) }
         ensures whole { 0 < run.ends.count → result ≡ (min range.low (cell self.now.cells.items run.ends.first).low, max range.high (cell self.now.cells.items run.ends.last).high) }
     {
@@ -101,8 +100,7 @@ impl Chains {
         lower: Option<(u64, u64)>,
         upper: Option<(u64, u64)>,
     ) -> Result<(), StoreRefusal>
-        requires stands { Stands self.old run.gap }
-        requires follow { Follow self.old run }
+        requires { Follow self.old run }
         ensures { let rs = ranges_of self.old run.gap.chain.number in ChangedIfItFits self.old self.new run.gap.chain.number (take run.gap.place rs ++ (one_or_none lower ++ (one_or_none upper ++ drop (run.gap.place + run.ends.count) rs))) result }
     {
         let wanted = usize::from(lower.is_some()) + usize::from(upper.is_some());

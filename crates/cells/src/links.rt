@@ -93,8 +93,7 @@ impl Chains {
 
     /// Links cells out of their chain and hands them to the free chain as they are linked.
     pub(crate) fn remove(&mut self, run: Run)
-        requires stands { Stands self.old run.gap }
-        requires follow { Follow self.old run }
+        requires { Follow self.old run }
         ensures changed { let rs = ranges_of self.old run.gap.chain.number in Changed self.old self.new run.gap.chain.number (take run.gap.place rs ++ drop (run.gap.place + run.ends.count) rs) }
         ensures stands { Stands self.new run.gap }
         ensures free { free_of self.new ≡ free_of self.old + run.ends.count }

@@ -1,7 +1,7 @@
 // Walks along a chain, and what is asked of a set.
 ghost use Rattle.std.specs.Prelude.{◌≡◌, ℕ, ◌<◌, ◌≤◌, true, false};
 ghost use Rattle.store.specs.Ranges.{next_range};
-ghost use Rattle.cells.specs.Chains.{count_of, ranges_of, cell_at, Stands, Follow, GoesOn};
+ghost use Rattle.cells.specs.Chains.{count_of, ranges_of, cell_at, Follow, GoesOn};
 ghost use Rattle.cells.specs.Places.{EndingBelow, BeginningWithin};
 
 use crate::cell::{Cell, Ends};
@@ -76,7 +76,6 @@ impl CellStore {
     /// The cells whose ranges meet low..high.
     pub(crate) fn meeting(&self, chain: Chain, low: u64, high: u64) -> Run
         ensures chain { result.gap.chain ≡ chain }
-        ensures stands { Stands self.now.chains result.gap }
         ensures follow { Follow self.now.chains result }
         ensures below { EndingBelow (ranges_of self.now.chains chain.number) low result.gap.place }
         ensures met { BeginningWithin (ranges_of self.now.chains chain.number) high result.gap.place result.ends.count }

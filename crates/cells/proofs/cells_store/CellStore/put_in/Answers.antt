@@ -5,19 +5,9 @@ use Rattle.store.specs.Ranges.{apart, with_range}
 use Rattle.store.proofs.Adding.{adding_keeps_order}
 use Rattle.cells.specs.Chains.{ranges_of, ChangedIfItFits}
 use Rattle.cells.specs.Meanings.{ordered_at, ordered_if_it_fits}
-use Rattle.cells.proofs.Puts.{first_cell, last_cell, put_changes}
+use Rattle.cells.proofs.Puts.{put_changes}
 use Rattle.cells.proofs.cells_store.CellStore.put_in.Goals as goal
 use Rattle.cells.proofs.cells_store.CellStore.put_in.Goals.{After-replace}
-
-pub joined-joined-requires : goal.joined-joined-requires
-joined-joined-requires c =
-    let x = c.grow_last.new.self.chains in
-    let r = c.meeting-run.result in
-    let e = c.meeting-run.ensures in
-    record {
-      first = first_cell x r e.follow;
-      last = last_cell x r e.follow;
-    }
 
 pub returns-then-grow_last : goal.returns-then-grow_last
 returns-then-grow_last c = c.if-grow_last.ensures.grown refl

@@ -19,20 +19,20 @@ returns-then-ends-eq0-clause-changed c =
     unchanged c.args.self.now c.args.run.gap.chain.number _ (ap (λ n. take r.gap.place rs ++ drop n rs) z ∙ take-append-drop r.gap.place rs)
 
 pub index-requires : goal.index-requires
-index-requires c = end_fits c.args.self.now c.args.run (omega (arith, c.if-ends-eq0.false)) c.requires.follow
+index-requires c = end_fits c.args.self.now c.args.run (omega (arith, c.if-ends-eq0.false)) c.requires
 
 pub relink-requires : goal.relink-requires
 relink-requires c = subst (λ n. IfSome c.args.run.gap.before (λ p. p < n)) (sym c.deref_mut.ensures.len) (before_fits c.args.self.now c.args.run.gap c.requires.stands)
 
 pub index_mut-requires : goal.index_mut-requires
-index_mut-requires c = end_fits c.args.self.now c.args.run (omega (arith, c.if-ends-eq0.false)) c.requires.follow
+index_mut-requires c = end_fits c.args.self.now c.args.run (omega (arith, c.if-ends-eq0.false)) c.requires
 
 pub overflow_add-free : goal.overflow_add-free
 overflow_add-free c =
     let fits = both_fit c.args.self.now c.args.run.gap.chain.number c.args.run.gap.chain.small in
     elim c.if-free-eq0.branch [
-      | then-free-eq0 w ↦ omega (arith, fits, c.requires.follow.inside, ap (λ e. e.count) w.free-is)
-      | else-free-eq0 w ↦ omega (arith, fits, c.requires.follow.inside, ap (λ e. e.count) w.free-is)
+      | then-free-eq0 w ↦ omega (arith, fits, c.requires.inside, ap (λ e. e.count) w.free-is)
+      | else-free-eq0 w ↦ omega (arith, fits, c.requires.inside, ap (λ e. e.count) w.free-is)
     ]
 
 fewer : (c : Joined-free-eq0) → (let z = c.if-set-ends.set in record { first = z.first; last = z.last; count = z.count - c.args.run.ends.count }) ≡ cut (ends c.args.self.now.ends c.args.run.gap.chain.number) c.args.run.ends.count c.args.run.ends.last c.args.run.gap.before
@@ -64,7 +64,7 @@ done c =
     let x = c.args.self.now in
     let k = c.args.run.gap.chain.number in
     let r = c.args.run in
-    let f = c.requires.follow in
+    let f = c.requires in
     let some : 0 < r.ends.count = omega (arith, c.if-ends-eq0.false) in
     let fits = end_fits x r some f in
     let long_now = length_refill (vec_len x.cells) (vec_items x.cells) c.relink.new.cells (sym (long x)) in
