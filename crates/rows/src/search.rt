@@ -1,6 +1,5 @@
 // Where rows stand: binary search on the line of all labels and IDs.
-ghost use Rattle.std.specs.Prelude.{◌≡◌, ◌+◌, ◌<◌, ◌≤◌, length};
-ghost use Rattle.std.specs.List.Sorted.{IsPartitionPoint};
+ghost use Rattle.std.specs.Prelude.{◌≡◌, ◌+◌, ◌≤◌};
 ghost use Rattle.store.specs.Ranges.{next_range};
 ghost use Rattle.rows.specs.Rows.{spot, begins_at, ends_at, ranges};
 ghost use Rattle.rows.specs.Tables.{rows_of, Between};
@@ -57,30 +56,15 @@ impl Table {
         &self.memory.places[..self.used]
     }
 
-    /// How many rows end before this spot.
-    fn ending_before(&self, at: u128) -> usize
-        ensures inside { result ≤ length (rows_of self.now) }
-        ensures point { IsPartitionPoint (λ r. ends_at r < at) (λ r. at ≤ ends_at r) (rows_of self.now) result }
-    {
-        self.in_use().partition_point(|row| row.ends_at() < at)
-    }
-
-    /// How many rows begin before this spot.
-    fn beginning_before(&self, at: u128) -> usize
-        ensures inside { result ≤ length (rows_of self.now) }
-        ensures point { IsPartitionPoint (λ r. begins_at r < at) (λ r. at ≤ begins_at r) (rows_of self.now) result }
-    {
-        self.in_use().partition_point(|row| row.begins_at() < at)
-    }
-
     /// The rows that reach the spot `from` and begin before the spot `to`.
     pub(crate) fn between(&self, from: u128, to: u128) -> Stretch
         requires { from ≤ to }
         ensures { Between (rows_of self.now) from to result.from result.to }
     {
+        let rows = self.in_use();
         Stretch {
-            from: self.ending_before(from),
-            to: self.beginning_before(to),
+            from: rows.partition_point(|row| row.ends_at() < from),
+            to: rows.partition_point(|row| row.begins_at() < to),
         }
     }
 
@@ -88,8 +72,9 @@ impl Table {
     pub(crate) fn next(&self, label: Label, n: u64) -> Option<(u64, u64)>
         ensures { result ≡ next_range (ranges label.value (rows_of self.now)) n }
     {
-        let found = self.ending_before(label.spot(n));
-        match self.in_use().get(found) {
+        let rows = self.in_use();
+        let at = label.spot(n);
+        match rows.get(rows.partition_point(|row| row.ends_at() < at)) {
             Some(row) if row.label == label.value => Some((row.low, row.high)),
             _ => None,
         }
