@@ -12,7 +12,7 @@ use Rattle.rows.specs.declared.row.Row.{Row}
 use Rattle.rows.specs.Rows.{spot, begins_at, ends_at, Fair, Rising, ranges}
 use Rattle.rows.specs.Tables.{maybe, Between, Changed, ChangedIfItFits}
 use Rattle.rows.specs.Orders.{fair_rows}
-use Rattle.rows.specs.Searches.{front, rest, blank}
+use Rattle.rows.proofs.Halves.{front, rest, blank}
 use Rattle.rows.proofs.Middles.{all_both, ordered_places}
 use Rattle.rows.proofs.Joins.{lone, together}
 use Rattle.rows.proofs.Cuts.{untouched, left_over}

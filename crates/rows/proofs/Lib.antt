@@ -5,3 +5,5 @@ pub mod Joins
 pub mod Cuts
 pub mod Clears
 pub mod Finds
+pub mod Halves
+pub mod Nexts

@@ -5,7 +5,8 @@ use Rattle.rows.specs.Meaning.{meaning}
 use Rattle.rows.specs.Rows.{ranges}
 use Rattle.rows.specs.Tables.{rows_of}
 use Rattle.rows.specs.Searches.{in_order}
-use Rattle.rows.specs.Spots.{ranges_canonical, by_members}
+use Rattle.rows.specs.Spots.{ranges_canonical}
+use Rattle.rows.proofs.Nexts.{by_members}
 use Rattle.rows.proofs.rows_store.RowStoreRangeStore.next.Goals as goal
 
 pub returns : goal.returns

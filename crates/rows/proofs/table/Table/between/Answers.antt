@@ -1,7 +1,8 @@
 -- Rows in order end in order and begin in order, and those that end before a spot begin before a later one.
 use Rattle.std.proofs.Common.{length, refl, ap, arith, rules}
 use Rattle.rows.specs.Rows.{begins_at, ends_at}
-use Rattle.rows.specs.Searches.{in_order, ends_rise, begins_rise, halved}
+use Rattle.rows.specs.Searches.{in_order}
+use Rattle.rows.proofs.Halves.{ends_rise, begins_rise, halved}
 use Rattle.rows.specs.Tables.{rows_of, Between}
 use Rattle.rows.proofs.Finds.{found, in_turn}
 use Rattle.rows.proofs.table.Table.between.Goals as goal

@@ -4,8 +4,9 @@ use Rattle.std.specs.List.{AllByRecursion}
 use Rattle.std.specs.List.Sorted.{IsPartitionPoint}
 use Rattle.rows.specs.Rows.{spot, ends_at}
 use Rattle.rows.specs.Tables.{rows_of}
-use Rattle.rows.specs.Searches.{in_order, ends_rise, halved, front}
-use Rattle.rows.specs.Spots.{next_none, next_found, next_other}
+use Rattle.rows.specs.Searches.{in_order}
+use Rattle.rows.proofs.Halves.{ends_rise, halved, front}
+use Rattle.rows.proofs.Nexts.{next_none, next_found, next_other}
 use Rattle.rows.proofs.table.Table.next.Goals as goal
 use Rattle.rows.proofs.table.Table.next.Goals.{After-get, In-Some}
 
