@@ -30,11 +30,7 @@ fn link_all(cells: &mut [Cell])
     ensures { (k : ℕ) → k < length cells.old → (cell cells.new k).next ≡ k + 1 }
 {
     for (i, cell) in cells.iter_mut().enumerate() {
-        *cell = Cell {
-            low: 0,
-            high: 0,
-            next: i + 1,
-        };
+        cell.next = i + 1;
     }
 }
 

@@ -28,46 +28,49 @@ pub enum Call {
     Store(StoreCall),
 }
 
-fn number(words: &mut Words) -> Option<u64> {
-    read_decimal(words.next()?)
-}
-
-fn set(words: &mut Words) -> Option<SetName> {
-    SetName::try_from(number(words)?).ok()
-}
-
-fn range(words: &mut Words) -> Option<Range> {
-    Range::new(number(words)?, number(words)?)
-}
-
-fn rows(words: &mut Words) -> Option<u64> {
-    match words.next()? {
-        b"rows" => number(words),
-        _ => None,
+// What a call is read from, word by word.
+impl Words<'_> {
+    fn number(&mut self) -> Option<u64> {
+        read_decimal(self.next()?)
     }
-}
 
-fn store_call(name: &[u8], words: &mut Words) -> Option<StoreCall> {
-    let call = match name {
-        b"put" => StoreCall::Put(set(words)?, range(words)?),
-        b"take" => StoreCall::Take(set(words)?, range(words)?),
-        b"move" => StoreCall::Move(set(words)?, set(words)?),
-        b"clear" => StoreCall::Clear(set(words)?),
-        b"query" => StoreCall::Query(set(words)?, number(words)?),
-        b"next" => StoreCall::Next(set(words)?, number(words)?),
-        b"total" => StoreCall::Total,
-        b"limit" => StoreCall::Limit,
-        _ => return None,
-    };
-    Some(call)
-}
+    fn set(&mut self) -> Option<SetName> {
+        SetName::try_from(self.number()?).ok()
+    }
 
-fn whole_call(words: &mut Words) -> Option<Call> {
-    let call = match words.next()? {
-        b"make" => Call::MakeRows(rows(words)?),
-        name => Call::Store(store_call(name, words)?),
-    };
-    words.next().is_none().then_some(call)
+    fn range(&mut self) -> Option<Range> {
+        Range::new(self.number()?, self.number()?)
+    }
+
+    fn rows(&mut self) -> Option<u64> {
+        match self.next()? {
+            b"rows" => self.number(),
+            _ => None,
+        }
+    }
+
+    fn store_call(&mut self, name: &[u8]) -> Option<StoreCall> {
+        let call = match name {
+            b"put" => StoreCall::Put(self.set()?, self.range()?),
+            b"take" => StoreCall::Take(self.set()?, self.range()?),
+            b"move" => StoreCall::Move(self.set()?, self.set()?),
+            b"clear" => StoreCall::Clear(self.set()?),
+            b"query" => StoreCall::Query(self.set()?, self.number()?),
+            b"next" => StoreCall::Next(self.set()?, self.number()?),
+            b"total" => StoreCall::Total,
+            b"limit" => StoreCall::Limit,
+            _ => return None,
+        };
+        Some(call)
+    }
+
+    fn call(&mut self) -> Option<Call> {
+        let call = match self.next()? {
+            b"make" => Call::MakeRows(self.rows()?),
+            name => Call::Store(self.store_call(name)?),
+        };
+        self.next().is_none().then_some(call)
+    }
 }
 
 /// The call that a line is; a bad call if it is none, or names a set or a range that cannot exist.
@@ -77,7 +80,7 @@ impl TryFrom<&[u8]> for Call {
     ghost try_from_gives = { λ _ r. MatchResult r (λ _. Unit {0}) (λ c. c ≡ BadCall) };
 
     fn try_from(line: &[u8]) -> Result<Call, Complaint> {
-        whole_call(&mut Words::of(line)).ok_or(Complaint::BadCall)
+        Words::of(line).call().ok_or(Complaint::BadCall)
     }
 }
 

@@ -73,7 +73,7 @@ pub trait RangeStore {
 /// A store in memory that the caller hands over, and may have back.
 pub trait InMemory: RangeStore {
     /// The memory of one range.
-    type Place;
+    type Place: Copy + Default;
 
     /// A store in this memory with every set empty, whatever is in it. Its limit is the number of places.
     fn new(memory: Memory<Self::Place>) -> Self

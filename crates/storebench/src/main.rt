@@ -15,10 +15,7 @@ use store::InMemory;
 use workload::Workload;
 
 // A first run, and the digest of its answers; prints that digest with all ranges after the run.
-fn report_digest<S: InMemory + Drop>(rt: &HostRuntime, workload: &Workload) -> io::Result<Digest>
-where
-    S::Place: Copy + Default,
-{
+fn report_digest<S: InMemory + Drop>(rt: &HostRuntime, workload: &Workload) -> io::Result<Digest> {
     let first = measure::<S>(rt, workload)?;
     let mut digest = first.answers;
     digest.add_all_ranges(&first.store);
@@ -27,10 +24,7 @@ where
 }
 
 // The digest of a first run, and then the nanoseconds of each further one, which has to answer the same.
-fn report<S: InMemory + Drop>(rt: &HostRuntime, workload: &Workload, runs: u32) -> io::Result<()>
-where
-    S::Place: Copy + Default,
-{
+fn report<S: InMemory + Drop>(rt: &HostRuntime, workload: &Workload, runs: u32) -> io::Result<()> {
     let answers = report_digest::<S>(rt, workload)?;
     for _ in 0..runs {
         let run = measure::<S>(rt, workload)?;

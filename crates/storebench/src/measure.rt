@@ -16,19 +16,13 @@ pub struct Run<S> {
 }
 
 // A new store of the greatest limit.
-fn new_store<S: InMemory>(rt: &HostRuntime) -> io::Result<S>
-where
-    S::Place: Copy + Default,
-{
+fn new_store<S: InMemory>(rt: &HostRuntime) -> io::Result<S> {
     let places = vec![in rt.alloc(); S::Place::default(); LIMIT]?;
     Ok(S::new(Memory::new(places).unwrap()))
 }
 
 /// A run over a new store of a make.
-pub fn measure<S: InMemory + Drop>(rt: &HostRuntime, workload: &Workload) -> io::Result<Run<S>>
-where
-    S::Place: Copy + Default,
-{
+pub fn measure<S: InMemory + Drop>(rt: &HostRuntime, workload: &Workload) -> io::Result<Run<S>> {
     let mut store: S = new_store(rt)?;
     let mut answers = Digest::EMPTY;
     answers.perform_all(&mut store, workload.before.as_slice());
