@@ -46,3 +46,7 @@ outcome_text (Err complaint) = complaint_text complaint
 -- a line's call in normal form, what comes of it, and the line's end
 abbrev pub line_text : Call → Result Answer Complaint → List ℕ
 line_text call outcome = call_text call ++ (codes " => " ++ (outcome_text outcome ++ 10 ∷ []))
+
+-- what stands behind the words of a line that is no call
+abbrev pub bad_call_text : List ℕ
+bad_call_text = codes " => " ++ (complaint_text BadCall ++ 10 ∷ [])

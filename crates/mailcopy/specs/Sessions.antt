@@ -16,7 +16,7 @@ use Rattle.mailcopy.specs.declared.call.Call.TheVariants.{MakeRows, Store}
 use Rattle.mailcopy.specs.declared.call.StoreCall.{StoreCall}
 use Rattle.mailcopy.specs.declared.session.Session.{Session}
 use Rattle.mailcopy.specs.Performs.{Performed, Performs}
-use Rattle.mailcopy.specs.Prints.{line_text}
+use Rattle.mailcopy.specs.Prints.{line_text, bad_call_text}
 
 -- the limit and the sets of the store that is in use, if one has been made
 abbrev pub Made : Type 0
@@ -59,7 +59,12 @@ Comes before call after (Ok answer) = Steps before call after (Ok answer)
 Comes before call after (Err (failure.Complaint complaint)) = Steps before call after (Err complaint)
 Comes before call after (Err (failure.Memory _)) = Wanting before call after
 
+-- what is printed of a line that makes no step: nothing, or some words and that they are no call
+abbrev pub NoStep : List ℕ → List ℕ → Type 0
+NoStep printed now = (now ≡ printed) ⊎ ((words : List ℕ) × (now ≡ printed ++ (words ++ bad_call_text)))
+
 -- a line makes one step by a call, and prints behind what was printed the call with what comes of it; or it makes none
 abbrev pub Line : {X Y : Type 0} → Made → Made → List ℕ → List ℕ → Result X Y → Type 0
 Line before after printed now result =
-    (after ≡ before) ⊎ ((call : Call) × (outcome : Outcome) × Steps before call after outcome × OnOk result (now ≡ printed ++ line_text call outcome))
+    ((after ≡ before) × OnOk result (NoStep printed now))
+    ⊎ ((call : Call) × (outcome : Outcome) × Steps before call after outcome × OnOk result (now ≡ printed ++ line_text call outcome))

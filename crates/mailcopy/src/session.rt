@@ -6,7 +6,7 @@ ghost use Rattle.mailcopy.specs.declared.call.Call.TheVariants.{MakeRows};
 use crate::answer::{Answer, Complaint, Failure};
 use crate::call::{Call, StoreCall};
 use crate::perform::perform;
-use crate::words::{Words, write_words};
+use crate::words::{Words, spaced};
 use rows::{Row, RowStore};
 use std::alloc::{AllocError, Global};
 use store::{InMemory, Limit, Memory};
@@ -70,16 +70,18 @@ impl Session {
         if is_skipped(line) {
             return Ok(());
         }
-        let told = match Call::try_from(line) {
-            Ok(call) => match self.answer(heap, call) {
-                Ok(answer) => format!(in heap; "{call} => {answer}\n")?,
-                Err(Failure::Complaint(complaint)) => format!(in heap; "{call} => {complaint}\n")?,
-                Err(Failure::Memory(error)) => return Err(error),
-            },
+        let call = match Call::try_from(line) {
+            Ok(call) => call,
             Err(complaint) => {
-                write_words(line, out)?;
-                format!(in heap; " => {complaint}\n")?
+                let told = format!(in heap; " => {complaint}\n")?;
+                out.extend_from_slice(spaced(heap, line)?.as_slice())?;
+                return out.extend_from_slice(told.as_bytes());
             }
+        };
+        let told = match self.answer(heap, call) {
+            Ok(answer) => format!(in heap; "{call} => {answer}\n")?,
+            Err(Failure::Complaint(complaint)) => format!(in heap; "{call} => {complaint}\n")?,
+            Err(Failure::Memory(error)) => return Err(error),
         };
         out.extend_from_slice(told.as_bytes())
     }

@@ -2,7 +2,7 @@
 ghost use Rattle.std.specs.Prelude.{length};
 ghost use Rattle.std.specs.Iterator.{at_most};
 
-use std::alloc::AllocError;
+use std::alloc::{AllocError, Global};
 
 /// The words of a line that are still to come.
 #[derive(Clone, Debug, Drop)]
@@ -42,15 +42,16 @@ impl<'a> Iterator for Words<'a> {
     }
 }
 
-/// Writes the words of a line as they stand, with one space between two.
-pub fn write_words(line: &[u8], out: &mut Vec<u8>) -> Result<(), AllocError> {
+/// The words of a line as they stand, with one space between two; fails for want of memory.
+pub fn spaced(heap: Global, line: &[u8]) -> Result<Vec<u8>, AllocError> {
     let mut words = Words::of(line);
+    let mut text = Vec::new(heap);
     if let Some(first) = words.next() {
-        out.extend_from_slice(first)?;
+        text.extend_from_slice(first)?;
     }
     for word in words {
-        out.push(b' ')?;
-        out.extend_from_slice(word)?;
+        text.push(b' ')?;
+        text.extend_from_slice(word)?;
     }
-    Ok(())
+    Ok(text)
 }
