@@ -8,6 +8,7 @@ use crate::cell::{Cell, Ends};
 use store::SetName;
 
 /// A chain for each set, by its number, and behind them the chain of the free cells. Every cell is on one of them.
+// The cells are in a `Vec` here and not in a `Memory`, since the other facts speak of them too.
 #[derive(Drop)]
 pub struct Chains {
     pub(crate) cells: Vec<Cell>,
@@ -20,7 +21,7 @@ pub struct Chains {
     ghost whole: { sum ends ≡ vec_len cells },
 }
 
-/// The chain of a set, by its number.
+/// The chain of a set, by its number, which indexes the ends of the chains.
 #[derive(Clone, Copy)]
 pub struct Chain {
     pub(crate) number: usize,

@@ -43,7 +43,7 @@ impl CellStore {
         self.chains.replace(run, Some(joined), None)
     }
 
-    // Puts a range that begins in the last range of the chain, or right behind it, into that; whether it begins there.
+    // Puts a range that begins in the last range of the chain, or right behind it, into that; whether it begins there, as `insert` of a set says whether it did.
     fn grow_last(&mut self, chain: Chain, range: Range) -> bool
         ensures grown { result ≡ true → Changed self.old.chains self.new.chains chain.number (with_range range.low range.high (ranges_of self.old.chains chain.number)) }
         ensures same { result ≡ false → self.new ≡ self.old }

@@ -9,7 +9,7 @@ use crate::chains::{Chains, Gap, Run};
 use std::mem;
 use store::Memory;
 
-// The number of the free chain.
+// The number of the free chain: one of twelve alike, so that each fact about them is said once.
 const FREE: usize = 11;
 
 // Links a gap of a chain to another cell, and gives the one that it was linked to.
@@ -65,6 +65,7 @@ impl Chains {
     }
 
     /// Takes a free cell for the range and links it in at the gap.
+    // That the gap stands there is of the chains at this moment: a type could hold it only with a borrow, through which nothing could be changed.
     pub(crate) fn insert(&mut self, gap: Gap, low: u64, high: u64)
         requires stands { Stands self.old gap }
         requires room { 0 < free_of self.old }

@@ -7,6 +7,7 @@ use crate::call::StoreCall;
 use store::{RangeStore, StoreRefusal};
 
 /// Makes a call on a store and gives its answer, or the store's refusal.
+// An arm for each call, alike or not: a closure for those that are would be longer than the arms.
 pub fn perform<S: RangeStore>(store: &mut S, call: StoreCall) -> Result<Answer, StoreRefusal>
     ensures room { S.RangeStore.room store.new ≡ S.RangeStore.room store.old }
     ensures outcome { Performs (S.RangeStore.room store.old) (S.RangeStore.model store.old) call (S.RangeStore.model store.new) result }

@@ -4,7 +4,8 @@ ghost use Rattle.std.specs.Iterator.{at_most};
 
 use std::alloc::{AllocError, Global};
 
-/// The words of a line that are still to come.
+/// The words of a line that are still to come. A line may hold bytes that are no text.
+// Cut by hand: an iterator of the library could be handed on only as a type parameter with conditions of its own.
 #[derive(Clone, Debug, Drop)]
 pub struct Words<'a> {
     rest: &'a [u8],

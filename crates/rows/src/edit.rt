@@ -1,4 +1,5 @@
 // Some of the rows in use give way to others.
+// That a stretch ends within them is of the stretch and the table at one moment, so each function asks it.
 ghost use Rattle.std.specs.Prelude.{◌≡◌, ◌+◌, ◌-◌, ◌<◌, ◌≤◌, ◌++◌, length, take, vec_len, option_to_list};
 ghost use Rattle.rows.specs.Rows.{Rising};
 ghost use Rattle.rows.specs.Tables.{rows_of, room_of, spliced, Holds, HoldsIfItFits};

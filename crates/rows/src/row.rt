@@ -1,6 +1,7 @@
 // A row of memory.
 
 /// The memory of one range. A row that is handed over may hold anything.
+// So `label` is a byte, and no name.
 #[derive(Clone, Copy, Debug, Default, PartialEq, Eq)]
 pub struct Row {
     pub label: u8,

@@ -34,6 +34,7 @@ impl Label {
     }
 }
 
+// Two lines for the two ends: the proofs speak in these words.
 impl Row {
     fn begins_at(self) -> u128
         ensures { result ≡ begins_at self }

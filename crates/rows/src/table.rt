@@ -6,6 +6,7 @@ use crate::row::Row;
 use store::Memory;
 
 /// The first `used` rows each hold a maximal range under a label; they are in order of label and range.
+// The rows come full and go back as many as they were, so how many are in use stands beside them.
 #[derive(Drop)]
 pub struct Table {
     pub(crate) memory: Memory<Row>,
@@ -15,6 +16,7 @@ pub struct Table {
 }
 
 /// One of the eleven labels.
+// What a row's byte holds: no name of a set, which has another label after each move.
 #[derive(Clone, Copy)]
 pub struct Label {
     pub(crate) value: u8,

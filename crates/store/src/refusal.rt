@@ -33,6 +33,7 @@ impl fmt::Display for Layer {
 }
 
 /// A refusal's number in the list of refusals, and the layer it comes from.
+// The number is what is told; the cases are each layer's own enum.
 #[derive(Clone, Copy, Debug, PartialEq, Eq)]
 pub struct Refusal {
     pub number: u8,

@@ -38,6 +38,7 @@ impl SetName {
     ];
 
     /// The set's number, 0 to 10 in the order above.
+    // A property with a name says more than a conversion would.
     pub fn number(self) -> u8
         ensures value { result ≡ number self }
         ensures small { result < 11 }

@@ -12,6 +12,7 @@ use crate::refusal::StoreRefusal;
 use crate::sets::SetName;
 
 /// Eleven sets of IDs, each as its maximal ranges, with room for a limited number of ranges in all.
+// That the room stays is a fact of a change, and of no value, so each call that changes says it. `next` answers plain numbers, as memory holds them.
 pub trait RangeStore {
     // Of each set the list of its maximal ranges, lowest first.
     ghost model: { Self → Model };

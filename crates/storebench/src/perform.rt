@@ -47,7 +47,7 @@ impl Digest {
         self.add(0);
     }
 
-    // Makes a call, and adds its answer.
+    // Makes a call, and adds its answer. Put and take differ in the call alone, and a closure for it would be longer than the arm.
     fn perform<S: RangeStore>(&mut self, store: &mut S, call: Call) {
         match call {
             Call::Put(range) => self.add(u64::from(store.put(SET, range).is_ok())),
