@@ -77,6 +77,11 @@ impl From<StoreRefusal> for Refusal {
 }
 
 impl fmt::Display for StoreRefusal {
+    ghost use Rattle.std.specs.Prelude.{Some};
+    ghost use Rattle.store.specs.Prints.{reason_text};
+
+    ghost output = { λ r. Some (reason_text r) };
+
     fn fmt<W: fmt::Write>(&self, f: &mut fmt::Formatter<W>) -> fmt::Result {
         f.write_str(match self {
             StoreRefusal::RowCount => "a store has 64 to 65,535 rows or cells",

@@ -52,6 +52,11 @@ impl SetName {
 pub struct NoSuchSet(pub u64);
 
 impl fmt::Display for NoSuchSet {
+    ghost use Rattle.std.specs.Prelude.{Some};
+    ghost use Rattle.store.specs.Prints.{no_set_text};
+
+    ghost output = { λ e. Some (no_set_text e) };
+
     fn fmt<W: fmt::Write>(&self, f: &mut fmt::Formatter<W>) -> fmt::Result {
         write!(f, "no set has the number {}", self.0)
     }
