@@ -1,11 +1,9 @@
 -- Pairs of hex digits: read one after another they give what the whole word reads as, and written ones read back.
-use Rattle.std.proofs.Common.{◌≡◌, ℕ, ◌+◌, ◌-◌, ◌/◌, ◌%◌, ◌^◌, false, ◌<◌, ◌≤◌, List, [], ◌∷◌, ◌++◌, length, get_or, take, Some, None, Option, sym, refl, ap, ◌∙◌, arith}
+use Rattle.std.proofs.Common.{◌≡◌, ℕ, ◌/◌, ◌%◌, ◌<◌, ◌≤◌, List, [], ◌∷◌, ◌++◌, length, get_or, Some, None, Option, sym, refl, ap, ◌∙◌, arith}
 use Rattle.std.specs.Option.{option_map}
 use Rattle.std.specs.List.{flat_map, AllByRecursion}
-use Rattle.std.proofs.lemmas.List.{append_assoc, flat_map_more, take_more}
+use Rattle.std.proofs.lemmas.List.{append_assoc}
 use Rattle.std.proofs.lemmas.Bool.Decides.{nat_tests}
-use Rattle.std.proofs.lemmas.Fmt.{hex_byte}
-use Rattle.std.specs.Fmt.{digits, digit_glyph, format_spec, padded_integral}
 use Rattle.text.specs.Hex.{hex_digit, byte_of, in_front, pairs, hex_bytes, hex_character, two_digits, PrintedBytesReadBack}
 
 -- bytes that are read already stand in front of those that are still to come
@@ -44,17 +42,3 @@ pub long_word : (word : List ℕ) → 2 ≤ length word → pairs word ≡ hex_b
 long_word [] two = absurd (omega arith)
 long_word (c ∷ []) two = absurd (omega arith)
 long_word (c ∷ (d ∷ cs)) two = refl
-
-glyph_is_character : (d : ℕ) → digit_glyph false d ≡ hex_character d
-glyph_is_character d = grind (arith, nat_tests)
-
--- `{:02x}` writes the two digits of a byte
-two_digits_written : (b : ℕ) → b < 256 → padded_integral (format_spec 32 0 4 2 (2 ^ 64 - 1)) false [] (digits 16 false b) ≡ two_digits b
-two_digits_written b h = hex_byte false b h ∙ rw (glyph_is_character (b / 16), glyph_is_character (b % 16)) refl
-
--- the text of one more byte, behind that of those before it
-pub one_more_written : (text new bytes : List ℕ) (i : ℕ) → i < length bytes → get_or bytes i 0 < 256 → text ≡ flat_map two_digits (take i bytes)
-    → new ≡ text ++ padded_integral (format_spec 32 0 4 2 (2 ^ 64 - 1)) false [] (digits 16 false (get_or bytes i 0)) → new ≡ flat_map two_digits (take (i + 1) bytes)
-one_more_written text new bytes i l small before e =
-    e ∙ ap (λ t. t ++ padded_integral (format_spec 32 0 4 2 (2 ^ 64 - 1)) false [] (digits 16 false (get_or bytes i 0))) before ∙ ap (λ d. flat_map two_digits (take i bytes) ++ d) (two_digits_written (get_or bytes i 0) small)
-    ∙ flat_map_more two_digits [] (take i bytes) (get_or bytes i 0) ∙ ap (flat_map two_digits) (sym (take_more bytes i 0 l))

@@ -1,5 +1,5 @@
 -- How a number is read from a word, and how it is written: decimal digits, the highest first.
-use Rattle.std.specs.Prelude.{◌≡◌, ℕ, zero, suc, ◌+◌, ◌-◌, ◌*◌, ◌/◌, ◌%◌, ◌^◌, ◌<◌, Bool, true, cond, ◌&&◌, List, [], ◌∷◌, ◌++◌, length, Some, None, Option, nat_le, nat_lt}
+use Rattle.std.specs.Prelude.{◌≡◌, ℕ, zero, suc, ◌+◌, ◌-◌, ◌*◌, ◌/◌, ◌%◌, ◌^◌, ◌<◌, Bool, true, cond, ◌&&◌, List, [], ◌∷◌, ◌++◌, length, Some, None, Option, nat_le, nat_lt, decimal as displayed}
 
 -- a byte is a digit: `0` is 48, and `9` is 57
 abbrev pub digit : ℕ → Bool
@@ -35,6 +35,10 @@ digits n = digits_within (n + 1) n
 -- a number that is printed reads back as itself
 abbrev pub PrintedNumberReadsBack : Type 0
 PrintedNumberReadsBack = (n : ℕ) → n < 2 ^ 64 → decimal (digits n) ≡ Some n
+
+-- so does one that is displayed, as in `{n}`: what the library prints of it is its digits
+abbrev pub DisplayedNumberReadsBack : Type 0
+DisplayedNumberReadsBack = (n : ℕ) → n < 2 ^ 64 → (displayed n ≡ digits n) × (decimal (displayed n) ≡ Some n)
 
 -- the number n with the byte c written behind it, where c is a digit and the number stays below 2^64: a step of reading
 abbrev pub extended : ℕ → ℕ → Option ℕ

@@ -1,7 +1,7 @@
 //! Numbers in decimal: reading them from a word, and writing them at the end of a text.
 
 ghost use Rattle.std.specs.Prelude.{◌≡◌, ◌++◌, is_ok, if◌then◌else◌};
-ghost use Rattle.text.specs.Decimal.{decimal, extended, digits, PrintedNumberReadsBack};
+ghost use Rattle.text.specs.Decimal.{decimal, extended, digits, PrintedNumberReadsBack, DisplayedNumberReadsBack};
 
 use std::alloc::AllocError;
 
@@ -39,7 +39,8 @@ pub fn write_decimal(n: u64, out: &mut Vec<u8>) -> Result<(), AllocError>
     out.extend_from_slice(text.as_bytes())
 }
 
-/// States that a printed number reads back as itself. It does nothing.
+/// States that a printed number reads back as itself, whether `write_decimal` wrote it or a `Display`, as `{n}` does. It does nothing.
 pub fn printed_number_reads_back()
-    ensures { PrintedNumberReadsBack }
+    ensures written { PrintedNumberReadsBack }
+    ensures displayed { DisplayedNumberReadsBack }
 {}

@@ -1,8 +1,8 @@
 //! Bytes in hex: reading them from a word, and writing them at the end of a text.
 
-ghost use Rattle.std.specs.Prelude.{◌≡◌, ◌++◌, is_ok, IfOk, if◌then◌else◌, string_bytes, vec_items};
+ghost use Rattle.std.specs.Prelude.{◌≡◌, ◌<◌, ◌++◌, is_ok, IfOk, if◌then◌else◌, string_bytes, vec_items};
 ghost use Rattle.std.specs.Option.{option_map};
-ghost use Rattle.text.specs.Hex.{hex_digit, byte_of, pairs, hex_bytes, hex_text, PrintedBytesReadBack};
+ghost use Rattle.text.specs.Hex.{hex_digit, byte_of, pairs, hex_bytes, hex_character, hex_text, PrintedBytesReadBack};
 
 use std::alloc::{AllocError, Global};
 
@@ -66,9 +66,18 @@ fn hex_of(heap: Global, bytes: &[u8]) -> Result<String, AllocError>
     }
     let mut text = String::new(heap);
     for byte in bytes {
-        write!(text, "{byte:02x}")?;
+        text.push(character(*byte / 16))?;
+        text.push(character(*byte % 16))?;
     }
     Ok(text)
+}
+
+/// The hex digit that counts `half`, a number below 16.
+fn character(half: u8) -> char
+    requires { half < 16 }
+    ensures { result ≡ hex_character half }
+{
+    char::from_digit(u32::from(half), 16).unwrap()
 }
 
 /// States that printed bytes read back as themselves. It does nothing.
