@@ -67,6 +67,10 @@ pub record OnePlaceEach (cs : List Cell) (es : List Ends) : Type 0 where
   pub once : (j k h i : ℕ) → j < 12 → k < 12 → h < (ends es j).count → i < (ends es k).count → slice_index (numbers cs es j) h ≡ slice_index (numbers cs es k) i → (j ≡ k) × (h ≡ i)
   pub some : (p : ℕ) → p < length cs → (k : ℕ) × (i : ℕ) × (k < 12) × (i < (ends es k).count) × (slice_index (numbers cs es k) i ≡ p)
 
+-- cells as a new store has them: no range in any, whatever was in it before, and each linked to the one after it in memory
+abbrev pub Blank : List Cell → Type 0
+Blank cs = (k : ℕ) → k < length cs → cell cs k ≡ record { low = 0; high = 0; next = k + 1 }
+
 -- the ranges of cells
 abbrev pub span : List Cell → ℕ → Span
 span cs i = ((cell cs i).low, (cell cs i).high)

@@ -94,6 +94,8 @@ impl Chains {
     }
 
     // Up to two ranges in the place of those of the run.
+    // Within its callers, so that the two ranges need not go through memory.
+    #[inline(always)]
     fn replace(
         &mut self,
         run: Run,

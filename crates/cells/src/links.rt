@@ -1,6 +1,6 @@
 // Cells linked into a chain and out of it. Each change moves cells between one set's chain and the free one, or exchanges two chains.
 ghost use Rattle.std.specs.Prelude.{◌≡◌, ℕ, ◌+◌, ◌-◌, ◌<◌, IfSome, [], ◌∷◌, ◌++◌, length, take, drop, vec_len};
-ghost use Rattle.cells.specs.Links.{cell};
+ghost use Rattle.cells.specs.Links.{Blank};
 ghost use Rattle.cells.specs.Relinks.{link, relinked, with_link};
 ghost use Rattle.cells.specs.Chains.{ranges_of, free_of, Stands, Follow, Changed};
 
@@ -25,19 +25,24 @@ fn relink(cells: &mut [Cell], ends: &mut Ends, before: Option<usize>, to: usize)
     }
 }
 
-// Links each cell to the one after it in memory.
+// Links each cell to the one after it in memory, and lets go of the range that was in it.
 fn link_all(cells: &mut [Cell])
-    ensures { (k : ℕ) → k < length cells.old → (cell cells.new k).next ≡ k + 1 }
+    ensures { Blank cells.new }
 {
     for (i, cell) in cells.iter_mut().enumerate() {
-        cell.next = i + 1;
+        *cell = Cell {
+            low: 0,
+            high: 0,
+            next: i + 1,
+        };
     }
 }
 
 impl Chains {
-    /// Every cell free, whatever it holds.
+    /// Every cell free, and what it held gone.
     pub(crate) fn new(memory: Memory<Cell>) -> Chains
         ensures len { vec_len result.cells ≡ vec_len memory.places }
+        ensures blank { Blank result.cells.items }
         ensures empty { (k : ℕ) → k < 11 → ranges_of result k ≡ [] }
     {
         let Memory { places: mut cells } = memory;

@@ -1,6 +1,7 @@
 // Making a store in linked cells, and its calls.
 ghost use Rattle.std.specs.Prelude.{◌≡◌, vec_len};
 ghost use Rattle.store.specs.Sets.{nothing, number};
+ghost use Rattle.cells.specs.Links.{Blank};
 ghost use Rattle.cells.specs.Meaning.{meaning, limit_of};
 ghost use Rattle.store.proofs.Models.{number_small};
 ghost use Rattle.cells.specs.Meanings;
@@ -15,9 +16,11 @@ use store::{InMemory, Memory, Range, RangeStore, SetName, StoreRefusal};
 impl InMemory for CellStore {
     type Place = Cell;
 
+    /// A store in this memory with every set empty. What its cells held before is gone.
     fn new(memory: Memory<Cell>) -> CellStore
         ensures empty { meaning result ≡ nothing }
         ensures limit { limit_of result ≡ vec_len memory.places }
+        ensures blank { Blank result.chains.cells.items }
     {
         CellStore {
             chains: Chains::new(memory),
