@@ -1,19 +1,19 @@
 -- Rows in order end in order and begin in order, so that halving finds those that end, or begin, before a spot.
-use Rattle.std.proofs.Common.{◌≡◌, ℕ, ◌+◌, ◌<◌, ◌≤◌, Bool, true, false, List, length, take, drop, nat_lt, slice_index_or, sym, subst, ⊎_elim, arith, length-drop}
+use Rattle.std.proofs.Common.{◌≡◌, ℕ, ◌+◌, ◌<◌, ◌≤◌, Bool, true, false, List, length, take, drop, nat_lt, slice_index_or, sym, ap, subst, ⊎_elim, arith, length-drop}
 use Rattle.std.specs.List.{AllByRecursion, AllWithin}
 use Rattle.std.specs.List.Sorted.{IsNonDecreasingBy, IsPartitionedBy, IsPartitionPoint}
 use Rattle.std.specs.Fn.{Called, ComputesKey}
 use denote.Param.Members.{Mut}
 use denote.Ref.{Bor}
 use Rattle.std.proofs.lemmas.Bool.{cases_lt, ltb-true, ltb-false}
-use Rattle.std.proofs.lemmas.List.{get_or-take, get_or-drop, length-take-le}
+use Rattle.std.proofs.lemmas.List.{get_or_default, get_or-take, get_or-drop, length-take-le}
 use Rattle.std.proofs.lemmas.List.Sorted.{IsPartitionPoint-from_clause, IsPartitionedBy-ltb}
 use Rattle.std.proofs.ByRecursion.{All-from_get_or}
 use Rattle.rows.specs.declared.row.Row.{Row}
 use Rattle.rows.specs.Rows.{begins_at, ends_at, Rising}
 use Rattle.rows.specs.Orders.{fair_place, later_row}
 
-pub blank : Row
+abbrev pub blank : Row
 blank = record { label = 0; low = 0; high = 0 }
 
 module _ (rs : List Row) (f : Rising 0 rs) where
@@ -30,6 +30,14 @@ module _ (rs : List Row) (f : Rising 0 rs) where
       (λ lt. omega (arith, later_row 0 rs a b d f lt l, fair_place 0 rs a d f (omega arith)))
       (λ ge. let e : a ≡ b = omega arith in subst (λ k. begins_at (slice_index_or rs a d) ≤ begins_at (slice_index_or rs k d)) e (omega arith))
       (cases_lt a b)
+
+-- where a row ends before a spot, so do those before it; where it does not, nor do those behind it
+module _ (rs : List Row) (f : Rising 0 rs) (at m : ℕ) (h : m < length rs) where
+  pub low_half : ends_at (slice_index_or rs m blank) < at → AllWithin (λ r. ends_at r < at) rs 0 (m + 1)
+  low_half lt k d a b = omega (arith, ends_rise rs f k m d (omega arith) h, ap ends_at (get_or_default rs m d blank h))
+
+  pub high_half : at ≤ ends_at (slice_index_or rs m blank) → AllWithin (λ r. at ≤ ends_at r) rs m (length rs)
+  high_half le k d a b = omega (arith, ends_rise rs f m k d a b, ap ends_at (get_or_default rs m d blank h))
 
 -- what holds at each place up to i, or from i on, holds of the rows there
 module _ (P : Row → Type 0) (rs : List Row) (i : ℕ) where

@@ -9,6 +9,7 @@ use crate::table::{Stretch, Table};
 use store::StoreRefusal;
 
 // Of the first `used` rows those of the stretch give way to `new`; the others move only if the number changes.
+#[inline]
 fn splice(rows: &mut [Row], used: usize, gone: Stretch, new: &[Row])
     requires to { gone.to ≤ used }
     requires used { used ≤ length rows.old }
@@ -25,6 +26,7 @@ fn splice(rows: &mut [Row], used: usize, gone: Stretch, new: &[Row])
 
 impl Table {
     // The rows of the stretch give way to `new`.
+    #[inline]
     pub(crate) fn replace(&mut self, gone: Stretch, new: &[Row])
         requires to { gone.to ≤ self.old.used }
         requires room { gone.from + length new.now + (self.old.used - gone.to) ≤ room_of self.old }
@@ -36,6 +38,8 @@ impl Table {
     }
 
     // The rows of the stretch give way to up to two; refused where there would be more rows than there are.
+    // Within its callers, of which a put knows how many rows it has: a copy of one row is three moves there, and no call.
+    #[inline(always)]
     pub(crate) fn replace_if_it_fits(
         &mut self,
         gone: Stretch,

@@ -1,5 +1,6 @@
 // Where rows stand: binary search on the line of all labels and IDs.
-ghost use Rattle.std.specs.Prelude.{◌≡◌, ◌+◌, ◌≤◌};
+ghost use Rattle.std.specs.Prelude.{◌≡◌, ◌+◌, ◌<◌, ◌≤◌, length};
+ghost use Rattle.std.specs.List.Sorted.{IsPartitionPoint};
 ghost use Rattle.store.specs.Ranges.{next_range};
 ghost use Rattle.rows.specs.Rows.{spot, begins_at, ends_at, ranges};
 ghost use Rattle.rows.specs.Tables.{rows_of, Between};
@@ -58,6 +59,7 @@ impl Table {
     }
 
     /// The rows that reach the spot `from` and begin before the spot `to`.
+    #[inline]
     pub(crate) fn between(&self, from: u128, to: u128) -> Stretch
         requires { from ≤ to }
         ensures { Between (rows_of self.now) from to result.from result.to }
@@ -69,13 +71,34 @@ impl Table {
         }
     }
 
+    // How many rows end before this spot.
+    // It answers what `partition_point` does, by a loop of our own: the library's takes one half or the other without a branch, so that each step waits for
+    // the one before, while the branches of this one are foreseen where ranges are asked for in order, as in a walk.
+    fn ending_before(&self, at: u128) -> usize
+        ensures inside { result ≤ length (rows_of self.now) }
+        ensures point { IsPartitionPoint (λ r. ends_at r < at) (λ r. at ≤ ends_at r) (rows_of self.now) result }
+    {
+        let rows = self.in_use();
+        let mut low = 0;
+        let mut high = rows.len();
+        while low < high {
+            let middle = low + (high - low) / 2;
+            if rows[middle].ends_at() < at {
+                low = middle + 1;
+            } else {
+                high = middle;
+            }
+        }
+        low
+    }
+
     /// The lowest range under the label whose high end is not below `n`.
     pub(crate) fn next(&self, label: Label, n: u64) -> Option<(u64, u64)>
         ensures { result ≡ next_range (ranges label.value (rows_of self.now)) n }
     {
-        let rows = self.in_use();
         let at = label.spot(n);
-        match rows.get(rows.partition_point(|row| row.ends_at() < at)) {
+        let found = self.ending_before(at);
+        match self.in_use().get(found) {
             Some(row) if row.label == label.value => Some((row.low, row.high)),
             _ => None,
         }
