@@ -1,5 +1,5 @@
 -- How calls, answers and complaints are printed.
-use Rattle.std.specs.Prelude.{ℕ, List, [], ◌∷◌, ◌++◌, Some, None, Ok, Err, Result, if◌then◌else◌, codes, decimal}
+use Rattle.std.specs.Prelude.{◌≡◌, ℕ, List, [], ◌∷◌, ◌++◌, Some, None, Ok, Err, Result, if◌then◌else◌, codes, decimal}
 use Rattle.store.specs.Prints.{range_text, refusal_text}
 use Rattle.store.specs.Sets.{number}
 use Rattle.mailcopy.specs.declared.answer.Answer.{Answer}
@@ -50,3 +50,7 @@ line_text call outcome = call_text call ++ (codes " => " ++ (outcome_text outcom
 -- what stands behind the words of a line that is no call
 abbrev pub bad_call_text : List ℕ
 bad_call_text = codes " => " ++ (complaint_text BadCall ++ 10 ∷ [])
+
+-- something, or nothing, stands behind what was printed
+abbrev pub Adds : List ℕ → List ℕ → Type 0
+Adds printed now = (more : List ℕ) × (now ≡ printed ++ more)

@@ -6,7 +6,7 @@ ghost use Rattle.mailcopy.specs.declared.call.Call.TheVariants.{MakeRows};
 use crate::answer::{Answer, Complaint, Failure};
 use crate::call::{Call, StoreCall};
 use crate::perform::perform;
-use crate::words::{Words, spaced};
+use crate::words::{Words, write_words};
 use rows::{Row, RowStore};
 use std::alloc::{AllocError, Global};
 use store::{InMemory, Limit, Memory};
@@ -73,8 +73,8 @@ impl Session {
         let call = match Call::try_from(line) {
             Ok(call) => call,
             Err(complaint) => {
+                write_words(line, out)?;
                 let told = format!(in heap; " => {complaint}\n")?;
-                out.extend_from_slice(spaced(heap, line)?.as_slice())?;
                 return out.extend_from_slice(told.as_bytes());
             }
         };

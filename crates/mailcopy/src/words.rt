@@ -1,12 +1,13 @@
 // The words of a line.
 ghost use Rattle.std.specs.Prelude.{length};
 ghost use Rattle.std.specs.Iterator.{at_most};
+ghost use Rattle.mailcopy.specs.Prints.{Adds};
 
-use std::alloc::{AllocError, Global};
+use std::alloc::AllocError;
 
 /// The words of a line that are still to come. A line may hold bytes that are no text.
 // Cut by hand: an iterator of the library could be handed on only as a type parameter with conditions of its own.
-#[derive(Clone, Debug, Drop)]
+#[derive(Clone, Copy, Debug)]
 pub struct Words<'a> {
     rest: &'a [u8],
 }
@@ -43,16 +44,17 @@ impl<'a> Iterator for Words<'a> {
     }
 }
 
-/// The words of a line as they stand, with one space between two; fails for want of memory.
-pub fn spaced(heap: Global, line: &[u8]) -> Result<Vec<u8>, AllocError> {
+/// Adds to `out` the words of a line as they stand, with one space between two; fails for want of memory.
+pub fn write_words(line: &[u8], out: &mut Vec<u8>) -> Result<(), AllocError>
+    ensures { Adds out.old.items out.new.items }
+{
     let mut words = Words::of(line);
-    let mut text = Vec::new(heap);
     if let Some(first) = words.next() {
-        text.extend_from_slice(first)?;
+        out.extend_from_slice(first)?;
     }
     for word in words {
-        text.push(b' ')?;
-        text.extend_from_slice(word)?;
+        out.push(b' ')?;
+        out.extend_from_slice(word)?;
     }
-    Ok(text)
+    Ok(())
 }

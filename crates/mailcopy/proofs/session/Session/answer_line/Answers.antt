@@ -11,13 +11,12 @@ on_ok P (Err e) h = tt
 
 pub returns-in-Err : goal.returns-in-Err
 returns-in-Err c =
-    let words = c.in_ok-spaced-in-Err.field-0.items in
-    let first : c.extend_from_slice.new.self.items ≡ c.args.out.now.items ++ words = search rules in
+    let words = c.write_words.ensures.0 in
     let told : c.as_bytes.result.now ≡ bad_call_text = search rules in
     inl (
       refl,
-      on_ok _ c.extend_from_slice-in-Err.result (λ ok. inr (
+      on_ok _ c.extend_from_slice.result (λ ok. inr (
         words,
-        c.extend_from_slice-in-Err.ensures.items ∙ cond-true _ _ _ ok ∙ ap (λ l. l ++ c.as_bytes.result.now) first ∙ ap (λ l. (c.args.out.now.items ++ words) ++ l) told ∙ append_assoc c.args.out.now.items words bad_call_text,
+        c.extend_from_slice.ensures.items ∙ cond-true _ _ _ ok ∙ ap (λ l. l ++ c.as_bytes.result.now) c.write_words.ensures.1 ∙ ap (λ l. (c.args.out.now.items ++ words) ++ l) told ∙ append_assoc c.args.out.now.items words bad_call_text,
       )),
     )
