@@ -21,6 +21,10 @@ pub enum Call {
 pub struct NoCall;
 
 impl fmt::Display for NoCall {
+    ghost use Rattle.std.specs.Prelude.{Some, codes};
+
+    ghost output = { λ _. Some (codes "no call of a workload") };
+
     fn fmt<W: fmt::Write>(&self, f: &mut fmt::Formatter<W>) -> fmt::Result {
         f.write_str("no call of a workload")
     }

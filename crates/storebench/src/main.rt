@@ -16,9 +16,9 @@ use workload::Workload;
 
 // A first run, and the digest of its answers; prints that digest with all ranges after the run.
 fn report_digest<S: InMemory + Drop>(rt: &HostRuntime, workload: &Workload) -> io::Result<Digest> {
-    let first = measure::<S>(rt, workload)?;
+    let (store, first) = measure::<S>(rt, workload)?;
     let mut digest = first.answers;
-    digest.add_all_ranges(&first.store);
+    digest.add_all_ranges(&store);
     println!(rt; "digest {digest}")?;
     Ok(first.answers)
 }
@@ -27,7 +27,7 @@ fn report_digest<S: InMemory + Drop>(rt: &HostRuntime, workload: &Workload) -> i
 fn report<S: InMemory + Drop>(rt: &HostRuntime, workload: &Workload, runs: u32) -> io::Result<()> {
     let answers = report_digest::<S>(rt, workload)?;
     for _ in 0..runs {
-        let run = measure::<S>(rt, workload)?;
+        let (_, run) = measure::<S>(rt, workload)?;
         if run.answers != answers {
             return Err(io::Error::other("two runs answered differently"));
         }

@@ -17,6 +17,10 @@ pub struct Digest {
 }
 
 impl fmt::Display for Digest {
+    ghost use Rattle.std.specs.Prelude.{Some, decimal};
+
+    ghost output = { λ d. Some (decimal d.value) };
+
     fn fmt<W: fmt::Write>(&self, f: &mut fmt::Formatter<W>) -> fmt::Result {
         self.value.fmt(f)
     }
@@ -34,6 +38,8 @@ impl Digest {
     }
 
     // Every range of a set more, by nexts from 0 on, each from right behind the range before, until there is none.
+    // Within its callers, so that a digest of theirs can stay in a register.
+    #[inline(always)]
     fn add_ranges<S: RangeStore>(&mut self, store: &S, set: SetName) {
         let mut n: u64 = 0;
         while let Some((low, high)) = store.next(set, n) {
@@ -66,9 +72,11 @@ impl Digest {
 
     /// Makes calls, and adds their answers.
     pub fn perform_all<S: RangeStore>(&mut self, store: &mut S, calls: &[Call]) {
+        let mut digest = *self;
         for call in calls {
-            self.perform(store, *call);
+            digest.perform(store, *call);
         }
+        *self = digest;
     }
 
     /// The total more, and every range of every set.
