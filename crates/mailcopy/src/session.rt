@@ -73,8 +73,8 @@ impl Session {
         let call = match Call::try_from(line) {
             Ok(call) => call,
             Err(complaint) => {
-                write_words(line, out)?;
                 let told = format!(in heap; " => {complaint}\n")?;
+                write_words(line, out)?;
                 return out.extend_from_slice(told.as_bytes());
             }
         };
